@@ -1,0 +1,4 @@
+pub mod Parts
+pub mod Slotted
+pub mod Sealing
+pub mod Striped
