@@ -1,0 +1,2 @@
+pub mod Vouchers
+pub mod BranchKind

@@ -1,0 +1,13 @@
+pub mod Kinds
+pub mod Fields
+pub mod Words
+pub mod AccountDays
+pub mod ThenBy
+pub mod FieldLaws
+pub mod Making
+pub mod WordLaws
+pub mod AccountDayLaws
+pub mod BuiltIn
+pub mod Ranks
+pub mod Worked
+pub mod AsSaid
