@@ -1,0 +1,11 @@
+pub mod Pieces
+pub mod Contents
+pub mod Cells
+pub mod Steps
+pub mod Filing
+pub mod Opened
+pub mod Refiling
+pub mod Layouts
+pub mod Rowwise
+pub mod Keyed
+pub mod Reversals

@@ -1,0 +1,6 @@
+pub mod Layout
+pub mod Reading
+pub mod Opening
+pub mod Rows
+pub mod Reversal
+pub mod KeyCheck
