@@ -1,0 +1,10 @@
+pub mod Examples
+pub mod Counting
+pub mod Changes
+pub mod Bookings
+pub mod Taking
+pub mod Plain
+pub mod Merges
+pub mod Paged
+pub mod Rows
+pub mod Looking
