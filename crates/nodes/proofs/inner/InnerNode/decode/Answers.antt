@@ -1,0 +1,6 @@
+use native.Mathlib.Omega.{arith}
+use Rattle.nodes.proofs.Spelling.{inner-spells}
+use Rattle.nodes.proofs.inner.InnerNode.decode.Needs as need
+
+pub returns-then-page-ne-PAGE-SIZE : need.returns-then-page-ne-PAGE-SIZE
+returns-then-page-ne-PAGE-SIZE c = record { is-the-value-whose-page-it-is = λ v fits e. let l = inner-spells (c .args .page .now) v fits e .has-512-bytes in omega arith }

@@ -1,0 +1,7 @@
+mod entry;
+mod free;
+mod header;
+mod inner;
+mod leaf;
+mod records;
+mod sort;

@@ -1,0 +1,4 @@
+pub mod Trees
+pub mod Valid
+pub mod Heights
+pub mod Counts
