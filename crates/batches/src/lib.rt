@@ -3,6 +3,7 @@
 
 pub use checking::check;
 pub use key_check::check_kind_and_keys;
+pub use laws::files_are_read_back;
 pub use line::Line;
 pub use line::Sign;
 pub use open::OpenBatch;
@@ -11,6 +12,7 @@ pub use rows::BatchRow;
 
 mod checking;
 mod key_check;
+mod laws;
 pub mod line;
 pub mod open;
 mod reading;

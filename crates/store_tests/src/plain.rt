@@ -132,7 +132,12 @@ fn step<S: PageStore>(store: &mut S, plain: &mut Plain, pick: u32) -> bool {
 }
 
 /// Whether a store and a list of pages answer alike over many calls.
-pub fn run_beside<S: PageStore>(store: &mut S, plain: &mut Plain, seed: u32, steps: u32) -> bool {
+pub(crate) fn run_beside<S: PageStore>(
+    store: &mut S,
+    plain: &mut Plain,
+    seed: u32,
+    steps: u32,
+) -> bool {
     let mut pick = seed;
     for _ in 0..steps {
         pick = pick.wrapping_mul(1664525).wrapping_add(1013904223);

@@ -18,7 +18,7 @@ pub type Stack = Cache<Stripe<Sealed, Flat>>;
 /// A stripe of such a stack and of another cache, under a cache.
 pub type Deeper = Cache<Stripe<Stack, Cache<Flat>>>;
 
-pub fn stack(sealed: Vec<u8>, flat: Vec<u8>) -> Stack {
+pub(crate) fn stack(sealed: Vec<u8>, flat: Vec<u8>) -> Stack {
     Cache::over(Stripe::over(Sealed::over(sealed), Flat::over(flat)))
 }
 
