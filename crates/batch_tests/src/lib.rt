@@ -1,4 +1,5 @@
 //! Tests of batch files: hostile headers, rows and lines, the key check and the reversal.
+#![tactic(auto)]
 
 #[cfg(test)]
 mod tests {

@@ -1,5 +1,6 @@
 //! Batch files: checking one, the open batch as a value that ends merged or withdrawn, its reversal,
 //! and the check of its kind and keys.
+#![tactic(auto)]
 
 pub use checking::check;
 pub use key_check::check_kind_and_keys;

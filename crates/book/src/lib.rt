@@ -1,5 +1,6 @@
 //! The plain book: what it is, what a merge does to it, and the laws that hold of every kind, book and batch.
 //! Each function answers true; its contract names the laws.
+#![tactic(auto)]
 
 ghost use Rattle.std.specs.Prelude.{◌≡◌, true};
 ghost use Rattle.book.specs.Books.{plain};

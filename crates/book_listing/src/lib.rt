@@ -1,4 +1,5 @@
 //! The text of booklist: one batch of narration words merged into a new index over 64 pages, and all of it listed.
+#![tactic(auto)]
 
 ghost use Rattle.std.specs.Prelude.{◌≡◌, true, leb, length, if◌then◌else◌, nat_le};
 ghost use Rattle.refusals.specs.Refusals.{Accepted, answer_of, wants, and_then};

@@ -1,4 +1,5 @@
 //! Tests of booklist's text, on inputs from anyone.
+#![tactic(auto)]
 
 #[cfg(test)]
 mod tests {

@@ -1,4 +1,5 @@
 //! Reads one batch of narration words from standard input, and prints its listing or why it is refused.
+#![tactic(auto)]
 
 ghost use Rattle.std.specs.Prelude.{◌≡◌, ◌≤◌, length, IfOk};
 ghost use Rattle.book_listing.specs.Text.{booklist_text};

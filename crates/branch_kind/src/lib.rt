@@ -1,4 +1,5 @@
 //! An example of a maker's own key kind, to copy from: vouchers by branch and number.
+#![tactic(auto)]
 
 ghost use Rattle.std.specs.Prelude.{◌≡◌, ◌≤◌, length};
 ghost use Rattle.branch_kind.specs.Vouchers.{capital, capitals, voucher_zeros};

@@ -1,4 +1,5 @@
 //! A cache of four pages over any page store.
+#![tactic(auto)]
 
 ghost use Rattle.std.specs.Prelude.{◌≡◌, ℕ, ◌<◌, ◌≤◌, true, length, take};
 ghost use Rattle.cache.specs.Holding.{all_apart};

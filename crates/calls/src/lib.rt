@@ -1,5 +1,6 @@
 //! What each call of an index answers and leaves: the definitions that the contracts of all calls read, and the laws
 //! that join them. Each function answers true; its contract names the laws.
+#![tactic(auto)]
 
 ghost use Rattle.std.specs.Prelude.{◌≡◌, true};
 ghost use Rattle.calls.specs.CallLaws.{JudgedThenTakenIsMerged, StandingLeadsThroughAnyCalls, AMadeIndexStands, OpeningFindsWhatStood, LookupsShowTheCounted};

@@ -1,4 +1,5 @@
 //! A maker's own page store, as an example: it lies over any other and counts the calls that it hands on.
+#![tactic(auto)]
 
 ghost use Rattle.std.specs.Prelude.{◌≡◌, true, ℕ, length};
 ghost use Rattle.refusals.specs.Refusals.{answer_of};

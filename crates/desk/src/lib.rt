@@ -1,4 +1,5 @@
 //! What a bookkeeper's desk adds to the kernel: the batch file that does one line under one word.
+#![tactic(auto)]
 
 ghost use Rattle.std.specs.Prelude.{◌≡◌, ◌++◌, IfOk};
 ghost use Rattle.batches.specs.Layout.{sign_byte, line_bytes};

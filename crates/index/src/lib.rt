@@ -1,4 +1,5 @@
 //! The posting index over any page store and any key kind.
+#![tactic(auto)]
 
 ghost use Rattle.std.specs.Prelude.{◌≡◌, true, false, []};
 ghost use Rattle.refusals.specs.Refusals.{answer_of, Accepted};

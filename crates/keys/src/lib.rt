@@ -1,4 +1,5 @@
 //! Key kinds: which fields of 24 bytes are keys, and how two keys compare.
+#![tactic(auto)]
 
 ghost use Rattle.std.specs.Prelude.{◌≡◌, true, ◌&&◌, if◌then◌else◌, Some, None, Decides};
 ghost use Rattle.refusals.specs.Refusals.{answer_of, Accepted, Refused};

@@ -1,4 +1,5 @@
 //! Tests of the key kinds and of the narration reader.
+#![tactic(auto)]
 
 #[cfg(test)]
 mod tests {

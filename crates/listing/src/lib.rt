@@ -1,4 +1,5 @@
 //! The call "list": rows of the postings of the keys from one to another, on the pages of any store.
+#![tactic(auto)]
 
 ghost use Rattle.std.specs.Prelude.{◌≡◌};
 ghost use Rattle.refusals.specs.Refusals.{answer_of};

@@ -1,4 +1,5 @@
 //! The postings of a key, found on the pages of any store.
+#![tactic(auto)]
 
 ghost use Rattle.std.specs.Prelude.{◌≡◌};
 ghost use Rattle.refusals.specs.Refusals.{answer_of};

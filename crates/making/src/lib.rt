@@ -1,4 +1,5 @@
 //! Make: an empty tree over whatever stands on the pages.
+#![tactic(auto)]
 
 ghost use Rattle.std.specs.Prelude.{◌≡◌, ◌≤◌, []};
 ghost use Rattle.refusals.specs.Refusals.{Accepted, answer_of};

@@ -1,4 +1,5 @@
 //! The narration reader: words and gaps in turn, each a part of the narration with its place.
+#![tactic(auto)]
 
 ghost use Rattle.std.specs.Prelude.{◌≡◌, true, List, length, Some, None};
 ghost use Rattle.keys.specs.BuiltIn.{word_kind};

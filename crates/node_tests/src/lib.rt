@@ -1,4 +1,5 @@
 //! Tests of pages: values that come back, and bytes that no page has.
+#![tactic(auto)]
 
 #[cfg(test)]
 mod tests {

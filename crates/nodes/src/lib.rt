@@ -1,4 +1,5 @@
 //! Pages as typed values: the header, inner nodes, leaves, record pages and free pages, decoded from 512 bytes and encoded into them.
+#![tactic(auto)]
 
 mod codec;
 pub mod entry;

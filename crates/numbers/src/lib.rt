@@ -1,4 +1,5 @@
 //! Unsigned numbers in byte slices, the most significant byte first.
+#![tactic(auto)]
 
 ghost use Rattle.std.specs.Prelude.{◌≡◌, ℕ, true};
 ghost use Rattle.numbers.specs.BigEndian.{bytes_of, number_at, NumbersAndBytesAgree};

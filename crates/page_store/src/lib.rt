@@ -1,4 +1,5 @@
 //! The page store: numbered pages of 512 bytes, each of them readable or lost.
+#![tactic(auto)]
 
 ghost use Rattle.std.specs.Prelude.{◌≡◌, ℕ, Bool, true, length};
 ghost use Rattle.refusals.specs.Refusals.{answer_of};

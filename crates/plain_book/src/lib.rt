@@ -1,4 +1,5 @@
 //! A plain book that runs: owned lists of postings, each key's with its inline postings and records.
+#![tactic(auto)]
 
 pub use account::Account;
 pub use failure::Failure;

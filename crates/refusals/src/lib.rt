@@ -1,4 +1,5 @@
 //! Why the kernel refuses a call: one enum for all layers, each case with its number and its place.
+#![tactic(auto)]
 
 ghost use Rattle.std.specs.Prelude.{◌≡◌, ℕ, true};
 ghost use Rattle.refusals.specs.Refusals.{number_of, place_of, NumberAndPlaceTellRefusalsApart};

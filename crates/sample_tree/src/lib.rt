@@ -1,4 +1,5 @@
 //! One valid tree on pages, and what small changes make of it: the rules of the valid tree are met, and each of them counts.
+#![tactic(auto)]
 
 ghost use Rattle.std.specs.Prelude.{◌≡◌, true};
 ghost use Rattle.sample_tree.specs.Changed.{ChangedImagesAreNotValid};

@@ -1,4 +1,5 @@
 //! Nodes read from the pages of a store, and the way down from the root to the leaf of a key.
+#![tactic(auto)]
 
 pub mod arrival;
 mod descent;

@@ -1,4 +1,5 @@
 //! Code over any page store, proved once, and tests that run stacks of stores beside plain lists of pages.
+#![tactic(auto)]
 
 ghost use Rattle.std.specs.Prelude.{◌≡◌, ℕ, true};
 ghost use Rattle.refusals.specs.Refusals.{answer_of};

@@ -1,4 +1,5 @@
 //! Page stores over memory, and the stripe that joins two stores.
+#![tactic(auto)]
 
 pub mod flat;
 pub mod sealed;

@@ -1,4 +1,5 @@
 //! A bookkeeper's round, from narrations to a corrected book. Each action and each answer is printed.
+#![tactic(auto)]
 
 use batches::{Line, OpenBatch, Sign, check, reverse};
 use desk::word_batch;

@@ -1,4 +1,5 @@
 //! The valid tree on pages: what the pages of an index have to be, and what follows from it.
+#![tactic(auto)]
 
 ghost use Rattle.std.specs.Prelude.{◌≡◌, true};
 ghost use Rattle.tree.specs.Counts.{PagesAreInUseOrFree};
