@@ -8,7 +8,7 @@ use Rattle.numbers.specs.BigEndian.{Bytes}
 use Rattle.keys.specs.Kinds.{Field, Kind}
 use Rattle.keys.specs.Fields.{zeros_only, bytes_only}
 use Rattle.keys.specs.FieldLaws.{zeros_are, bytes_from_test, same_by_two_numbers}
-use Rattle.keys.specs.ThenBy.{by_number, parts_exchanged, parts_itself, parts_same, parts_climb}
+use Rattle.keys.specs.ThenBy.{by_number_is_total, parts_exchanged, parts_itself, parts_same, parts_climb}
 use Rattle.keys.specs.Making.{kind_of}
 use Rattle.branch_kind.specs.Vouchers.{branch_of, voucher_of, capitals, voucher_zeros, lawful_voucher, by_branch_and_voucher}
 
@@ -30,7 +30,7 @@ told f e =
 
 pub voucher_same : (a b : Field) → Told a → Told b → by_branch_and_voucher a b ≡ Equal → a ≡ b
 voucher_same a b x y e =
-    let both = parts_same by_number by_number branch_of voucher_of a b e in
+    let both = parts_same by_number_is_total by_number_is_total branch_of voucher_of a b e in
     same_by_two_numbers a b x.long y.long x.bytes y.bytes both.0 both.1 (x.zeros ∙ sym y.zeros)
 
 abbrev pub branch_kind : Kind
@@ -38,8 +38,8 @@ branch_kind = kind_of 66 lawful_voucher by_branch_and_voucher (record {
   is_a_byte = lit< tt;
   long = λ a la. (told a la).long;
   bytes = λ a la. (told a la).bytes;
-  exchanged = λ a b la lb. parts_exchanged by_number by_number branch_of voucher_of a b;
-  itself = λ a la. parts_itself by_number by_number branch_of voucher_of a;
+  exchanged = λ a b la lb. parts_exchanged by_number_is_total by_number_is_total branch_of voucher_of a b;
+  itself = λ a la. parts_itself by_number_is_total by_number_is_total branch_of voucher_of a;
   same = λ a b la lb. voucher_same a b (told a la) (told b lb);
-  climbs = λ a b d la lb ld. parts_climb by_number by_number branch_of voucher_of a b d;
+  climbs = λ a b d la lb ld. parts_climb by_number_is_total by_number_is_total branch_of voucher_of a b d;
 })

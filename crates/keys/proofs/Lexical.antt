@@ -1,14 +1,15 @@
 -- What comparing two slices answers is their order byte by byte.
-use Rattle.std.proofs.Common.{◌≡◌, ℕ, ◌<◌, List, [], ◌∷◌, Ordering, Less, Equal, Greater, arith}
+use Rattle.std.proofs.Common.{◌≡◌, ℕ, List, [], ◌∷◌, refl, sym, ap, ◌∙◌, arith}
 use Rattle.std.proofs.lemmas.Bool.Decides.{nat_tests}
-use Rattle.std.specs.Cmp.Lexicographic.{Lex}
-use Rattle.std.specs.Ordering.{MatchOrdering}
-use Rattle.keys.specs.Fields.{by_bytes}
+use Rattle.std.specs.Cmp.Lexicographic.{slice_cmp}
+use Rattle.std.specs.Ordering.{nat_cmp, ordering_then}
+use Rattle.keys.specs.Fields.{by_number, by_bytes}
 
-pub bytes_say : (a b : List ℕ) (r : Ordering) → Lex (λ x y o. MatchOrdering o (x < y) (x ≡ y) (y < x)) a b r → r ≡ by_bytes a b
-bytes_say [] [] r h = h
-bytes_say [] (y ∷ ys) r h = h
-bytes_say (x ∷ xs) [] r h = h
-bytes_say (x ∷ xs) (y ∷ ys) r (Less, lt, e) = grind (arith, nat_tests)
-bytes_say (x ∷ xs) (y ∷ ys) r (Equal, eq, h) = let rest = bytes_say xs ys r h in grind (arith, nat_tests)
-bytes_say (x ∷ xs) (y ∷ ys) r (Greater, gt, e) = grind (arith, nat_tests)
+numbers_say : (x y : ℕ) → nat_cmp x y ≡ by_number x y
+numbers_say x y = grind (arith, nat_tests)
+
+pub bytes_say : (a b : List ℕ) → slice_cmp nat_cmp a b ≡ by_bytes a b
+bytes_say [] [] = refl
+bytes_say [] (y ∷ ys) = refl
+bytes_say (x ∷ xs) [] = refl
+bytes_say (x ∷ xs) (y ∷ ys) = ap (λ o. ordering_then o (slice_cmp nat_cmp xs ys)) (numbers_say x y) ∙ ap (ordering_then (by_number x y)) (bytes_say xs ys)

@@ -36,8 +36,8 @@ returns-in-Some g c =
       keeps_the_store_below = refl;
     }
 
-pub returns-in_err-read : goal.returns-in_err-read
-returns-in_err-read g c =
+pub returns-in_err-read-in-None : goal.returns-in_err-read-in-None
+returns-in_err-read-in-None g c =
     let self = c.args.self.now in
     let means = g.S.PageStore.meaning in
     let m = means self.below in
@@ -46,10 +46,10 @@ returns-in_err-read g c =
     let k = put_in hs m in
     let l = count_in hs m in
     let missed = page_missed hs m n c.in-None.ensures.finds_it in
-    let out = c.from_residual-in_err-read in
+    let out = c.from_residual-in_err-read-in-None in
     let r = err_from_is_err_and out.result out.ensures.1 in
     let same = c.read.ensures.keeps_the_meaning in
-    let answer = ap answer_of (r.1 ∙ (ap Err r.2 ∙ sym c.in_err-read.was)) in
+    let answer = ap answer_of (r.1 ∙ (ap Err r.2 ∙ sym c.in_err-read-in-None.was)) in
     record {
       answers_by_the_meaning = answer ∙ (c.read.ensures.answers_by_the_meaning ∙ read_missed m k n (length c.args.buffer.now) l missed);
       keeps_the_meaning = ap (put_in hs) same;
@@ -68,7 +68,7 @@ returns-then-self-lt4 g c =
     let l = count_in hs m in
     let old = c.args.buffer.now in
     let missed = page_missed hs m n c.in-None.ensures.finds_it in
-    let told = c.in_ok-read.ensures in
+    let told = c.in_ok-read-in-None.ensures in
     let same = told.keeps_the_meaning in
     let new = c.hold.result in
     let answers = told.answers_by_the_meaning ∙ read_missed m k n (length old) l missed in
@@ -98,7 +98,7 @@ returns-else-self-lt4 g c =
     let l = count_in hs m in
     let old = c.args.buffer.now in
     let missed = page_missed hs m n c.in-None.ensures.finds_it in
-    let told = c.in_ok-read.ensures in
+    let told = c.in_ok-read-in-None.ensures in
     let same = told.keeps_the_meaning in
     record {
       answers_by_the_meaning = told.answers_by_the_meaning ∙ read_missed m k n (length old) l missed;

@@ -16,7 +16,7 @@ returns-then-page-eq0 g c =
       keeps_the_meaning = c.loop-step.invariant.0;
       walks_the_chain = record {
         puts_its_rows = λ records readable.
-            chain_ends m c.args.key.now c.args.head c.args.at c.args.skip c.args.buffer.now c.loop-step.-step c.loop-step.page c.loop-step.next c.loop-step.buffer c.loop-step.invariant.2 records readable c.if-page-eq0.true;
+            chain_ends m c.args.key.now c.args.head c.args.at c.args.skip c.args.buffer.now c.loop-step._step c.loop-step.page c.loop-step.next c.loop-step.buffer c.loop-step.invariant.2 records readable c.if-page-eq0.true;
       };
     }
 
@@ -27,7 +27,7 @@ returns-then-is_past g c =
       keeps_the_meaning = c.loop-step.invariant.0;
       walks_the_chain = record {
         puts_its_rows = λ records readable.
-            chain_is_past m c.args.key.now c.args.head c.args.at c.args.skip c.args.buffer.now c.loop-step.-step c.loop-step.page c.loop-step.next c.loop-step.buffer c.loop-step.invariant.2 records readable c.requires.key_has_24_bytes (sym c.is_past.ensures.tells_the_end ∙ c.if-is_past.true);
+            chain_is_past m c.args.key.now c.args.head c.args.at c.args.skip c.args.buffer.now c.loop-step._step c.loop-step.page c.loop-step.next c.loop-step.buffer c.loop-step.invariant.2 records readable c.requires.key_has_24_bytes (sym c.is_past.ensures.tells_the_end ∙ c.if-is_past.true);
       };
     }
 
@@ -39,7 +39,7 @@ returns-in_err-record g c =
       keeps_the_meaning = c.read_record.ensures.keeps_the_meaning ∙ c.loop-step.invariant.0;
       walks_the_chain = record {
         puts_its_rows = λ records readable.
-            absurd (record_is_read m c.args.key.now c.args.head c.args.at c.args.skip c.args.buffer.now c.loop-step.-step c.loop-step.page c.loop-step.next c.loop-step.buffer c.loop-step.invariant.2 records readable c.if-page-eq0.false c.in_err-record.field-0.0 c.read_record.result read c.in_err-record.was);
+            absurd (record_is_read m c.args.key.now c.args.head c.args.at c.args.skip c.args.buffer.now c.loop-step._step c.loop-step.page c.loop-step.next c.loop-step.buffer c.loop-step.invariant.2 records readable c.if-page-eq0.false c.in_err-record.field-0.0 c.read_record.result read c.in_err-record.was);
       };
     }
 
@@ -51,7 +51,7 @@ loop-step-preserved g c =
     let read : NodeRead record_image RecordFits record_of m c.loop-step.page c.read_record.result = subst (λ (k : Meaning). NodeRead record_image RecordFits record_of k c.loop-step.page c.read_record.result) same c.read_record.ensures.reads_what_stands_there in (
       c.read_record.ensures.keeps_the_meaning ∙ same,
       omega arith,
-      chain_more m c.args.key.now c.args.head c.args.at c.args.skip c.args.buffer.now c.loop-step.-step c.loop-step.page c.loop-step.next c.loop-step.buffer c.loop-step.invariant.2 c.if-page-eq0.false c.in_ok-record.record c.read_record.result read c.in_ok-record.was c.put_rows.new.buffer c.put_rows.ensures.are_put,
+      chain_more m c.args.key.now c.args.head c.args.at c.args.skip c.args.buffer.now c.loop-step._step c.loop-step.page c.loop-step.next c.loop-step.buffer c.loop-step.invariant.2 c.if-page-eq0.false c.in_ok-record.record c.read_record.result read c.in_ok-record.was c.put_rows.new.buffer c.put_rows.ensures.are_put,
     )
 
 pub returns : goal.returns
@@ -61,6 +61,6 @@ returns g c =
       keeps_the_meaning = c.loop-step.invariant.0;
       walks_the_chain = record {
         puts_its_rows = λ records readable.
-            chain_never_so_long m c.args.key.now c.args.head c.args.at c.args.skip c.args.buffer.now c.loop-step.-step c.loop-step.page c.loop-step.next c.loop-step.buffer c.loop-step.invariant.2 records readable (let past = c.loop-step-test.false in let is = c.count-count.ensures.is_the_count in omega arith);
+            chain_never_so_long m c.args.key.now c.args.head c.args.at c.args.skip c.args.buffer.now c.loop-step._step c.loop-step.page c.loop-step.next c.loop-step.buffer c.loop-step.invariant.2 records readable (let past = c.loop-step-test.false in let is = c.count-count.ensures.is_the_count in omega arith);
       };
     }

@@ -29,7 +29,7 @@ returns-in_err-progress g c =
       keeps_the_meaning = c.list_leaf.ensures.keeps_the_meaning ∙ c.loop-step.invariant.0;
       walks_the_leaves = record {
         puts_their_rows = λ leaf right is readable lf ls.
-            absurd (leaf_never_refused g.K.KeyKind.kind m (leaf_of c.args.start) c.args.first.now c.args.second.now c.args.skip c.args.buffer.now c.loop-step.-step (leaf_of c.loop-step.leaf) c.loop-step.next c.loop-step.buffer c.loop-step.invariant.2 c.list_leaf.result c.list_leaf.new.buffer walked leaf right (record { is_it = is; readable = readable; first_lawful = lf; second_lawful = ls }) c.in_err-progress.field-0.0 c.in_err-progress.was);
+            absurd (leaf_never_refused g.K.KeyKind.kind m (leaf_of c.args.start) c.args.first.now c.args.second.now c.args.skip c.args.buffer.now c.loop-step._step (leaf_of c.loop-step.leaf) c.loop-step.next c.loop-step.buffer c.loop-step.invariant.2 c.list_leaf.result c.list_leaf.new.buffer walked leaf right (record { is_it = is; readable = readable; first_lawful = lf; second_lawful = ls }) c.in_err-progress.field-0.0 c.in_err-progress.was);
       };
     }
 
@@ -41,7 +41,7 @@ returns-in_default g c =
       keeps_the_meaning = c.list_leaf.ensures.keeps_the_meaning ∙ c.loop-step.invariant.0;
       walks_the_leaves = record {
         puts_their_rows = λ leaf right is readable lf ls.
-            leaves_end g.K.KeyKind.kind m (leaf_of c.args.start) c.args.first.now c.args.second.now c.args.skip c.args.buffer.now c.loop-step.-step (leaf_of c.loop-step.leaf) c.loop-step.next c.loop-step.buffer c.loop-step.invariant.2 c.list_leaf.result c.list_leaf.new.buffer walked leaf right (record { is_it = is; readable = readable; first_lawful = lf; second_lawful = ls }) c.in_ok-progress.progress c.in_ok-progress.was c.leaf_after.result c.leaf_after.ensures.is_the_leaf_right_of_it c.in_default.is;
+            leaves_end g.K.KeyKind.kind m (leaf_of c.args.start) c.args.first.now c.args.second.now c.args.skip c.args.buffer.now c.loop-step._step (leaf_of c.loop-step.leaf) c.loop-step.next c.loop-step.buffer c.loop-step.invariant.2 c.list_leaf.result c.list_leaf.new.buffer walked leaf right (record { is_it = is; readable = readable; first_lawful = lf; second_lawful = ls }) c.in_ok-progress.progress c.in_ok-progress.was c.leaf_after.result c.leaf_after.ensures.is_the_leaf_right_of_it c.in_default.is;
       };
     }
 
@@ -55,7 +55,7 @@ returns-in_err-leaf g c =
       keeps_the_meaning = c.read_leaf.ensures.keeps_the_meaning ∙ same;
       walks_the_leaves = record {
         puts_their_rows = λ leaf right is readable lf ls.
-            absurd (next_is_read g.K.KeyKind.kind m (leaf_of c.args.start) c.args.first.now c.args.second.now c.args.skip c.args.buffer.now c.loop-step.-step (leaf_of c.loop-step.leaf) c.loop-step.next c.loop-step.buffer c.loop-step.invariant.2 c.list_leaf.result c.list_leaf.new.buffer walked leaf right (record { is_it = is; readable = readable; first_lawful = lf; second_lawful = ls }) c.in_ok-progress.progress c.in_ok-progress.was c.in-Some.page (sym c.leaf_after.ensures.is_the_leaf_right_of_it ∙ c.in-Some.is) c.read_leaf.result read c.in_err-leaf.field-0.0 c.in_err-leaf.was);
+            absurd (next_is_read g.K.KeyKind.kind m (leaf_of c.args.start) c.args.first.now c.args.second.now c.args.skip c.args.buffer.now c.loop-step._step (leaf_of c.loop-step.leaf) c.loop-step.next c.loop-step.buffer c.loop-step.invariant.2 c.list_leaf.result c.list_leaf.new.buffer walked leaf right (record { is_it = is; readable = readable; first_lawful = lf; second_lawful = ls }) c.in_ok-progress.progress c.in_ok-progress.was c.in-Some.page (sym c.leaf_after.ensures.is_the_leaf_right_of_it ∙ c.in-Some.is) c.read_leaf.result read c.in_err-leaf.field-0.0 c.in_err-leaf.was);
       };
     }
 
@@ -69,7 +69,7 @@ loop-step-preserved g c =
     let more = IfOk-at_ok (λ (progress : Progress). progress.at ≤ c.loop-step.next + most_in_leaf) c.in_ok-progress.was c.list_leaf.ensures.counts_few in (
       c.read_leaf.ensures.keeps_the_meaning ∙ same,
       omega arith,
-      leaves_more g.K.KeyKind.kind m (leaf_of c.args.start) c.args.first.now c.args.second.now c.args.skip c.args.buffer.now c.loop-step.-step (leaf_of c.loop-step.leaf) c.loop-step.next c.loop-step.buffer c.loop-step.invariant.2 c.list_leaf.result c.list_leaf.new.buffer walked c.in_ok-progress.progress c.in_ok-progress.was c.in-Some.page (sym c.leaf_after.ensures.is_the_leaf_right_of_it ∙ c.in-Some.is) c.read_leaf.result read c.in_ok-leaf.leaf c.in_ok-leaf.was,
+      leaves_more g.K.KeyKind.kind m (leaf_of c.args.start) c.args.first.now c.args.second.now c.args.skip c.args.buffer.now c.loop-step._step (leaf_of c.loop-step.leaf) c.loop-step.next c.loop-step.buffer c.loop-step.invariant.2 c.list_leaf.result c.list_leaf.new.buffer walked c.in_ok-progress.progress c.in_ok-progress.was c.in-Some.page (sym c.leaf_after.ensures.is_the_leaf_right_of_it ∙ c.in-Some.is) c.read_leaf.result read c.in_ok-leaf.leaf c.in_ok-leaf.was,
     )
 
 pub returns : goal.returns
@@ -79,6 +79,6 @@ returns g c =
       keeps_the_meaning = c.loop-step.invariant.0;
       walks_the_leaves = record {
         puts_their_rows = λ leaf right is readable lf ls.
-            leaves_never_so_many g.K.KeyKind.kind m (leaf_of c.args.start) c.args.first.now c.args.second.now c.args.skip c.args.buffer.now c.loop-step.-step (leaf_of c.loop-step.leaf) c.loop-step.next c.loop-step.buffer c.loop-step.invariant.2 leaf right (record { is_it = is; readable = readable; first_lawful = lf; second_lawful = ls }) (let past = c.loop-step-test.false in let is = c.count-count.ensures.is_the_count in omega arith);
+            leaves_never_so_many g.K.KeyKind.kind m (leaf_of c.args.start) c.args.first.now c.args.second.now c.args.skip c.args.buffer.now c.loop-step._step (leaf_of c.loop-step.leaf) c.loop-step.next c.loop-step.buffer c.loop-step.invariant.2 leaf right (record { is_it = is; readable = readable; first_lawful = lf; second_lawful = ls }) (let past = c.loop-step-test.false in let is = c.count-count.ensures.is_the_count in omega arith);
       };
     }

@@ -12,9 +12,9 @@ loop-token-preserved c =
       omega (arith, c.loop-token.invariant.0, told.0.has_a_byte, told.1, told.2),
       told.3 ∙ c.loop-token.invariant.1,
       (
-        so_far.0 ++ c.in-Some.-token ∷ [],
-        handed_more fixed_table c.new-reader.result c.loop-token.reader c.next.new.self so_far.0 c.in-Some.-token so_far.1 told,
-        omega (arith, so_far.2, length_push so_far.0 c.in-Some.-token),
+        so_far.0 ++ c.in-Some._token ∷ [],
+        handed_more fixed_table c.new-reader.result c.loop-token.reader c.next.new.self so_far.0 c.in-Some._token so_far.1 told,
+        omega (arith, so_far.2, length_push so_far.0 c.in-Some._token),
       ),
     )
 

@@ -20,7 +20,7 @@ loop-level-preserved g c =
     let read : NodeRead inner_image InnerFits inner_of m c.loop-level.page c.read_inner.result = subst (λ (k : Meaning). NodeRead inner_image InnerFits inner_of k c.loop-level.page c.read_inner.result) same c.read_inner.ensures.reads_what_stands_there in (
       c.read_inner.ensures.keeps_the_meaning ∙ same,
       (let e = c.loop-level.invariant.1 in omega arith),
-      onward_more g.K.KeyKind.kind m c.args.key.now c.args.root c.args.height c.loop-level.-level c.loop-level.page c.loop-level.invariant.2 c.loop-level-test.true c.in_ok-node.node c.read_inner.result read c.in_ok-node.was c.child_for.result c.in-Some.child c.in-Some.is c.child_for.ensures.goes_by_the_separators,
+      onward_more g.K.KeyKind.kind m c.args.key.now c.args.root c.args.height c.loop-level._level c.loop-level.page c.loop-level.invariant.2 c.loop-level-test.true c.in_ok-node.node c.read_inner.result read c.in_ok-node.was c.child_for.result c.in-Some.child c.in-Some.is c.child_for.ensures.goes_by_the_separators,
       (let h = c.loop-level-test.true in omega (arith, c.ranges.height.fits)),
     )
 
@@ -32,7 +32,7 @@ returns-in_err-node g c =
       keeps_the_meaning = c.read_inner.ensures.keeps_the_meaning ∙ c.loop-level.invariant.0;
       refuses_only_damage = (let p = err_from_is_err_and c.from_residual.result c.from_residual.ensures.1 in rw (p.1, p.2) (read_shows_damage inner_image InnerFits inner_of m c.loop-level.page c.in_err-node.field-0.0 c.read_inner.result read c.in_err-node.was));
       reads_at_most_6_pages = search rules;
-      arrives = λ entries valid few root height lawful. absurd (node_is_read g.K.KeyKind.kind m c.args.key.now c.args.root c.args.height c.loop-level.-level c.loop-level.page c.loop-level.invariant.2 entries valid (record { few = few; from_its_root = root; of_its_height = height; lawful = lawful }) c.loop-level-test.true c.in_err-node.field-0.0 c.read_inner.result read c.in_err-node.was);
+      arrives = λ entries valid few root height lawful. absurd (node_is_read g.K.KeyKind.kind m c.args.key.now c.args.root c.args.height c.loop-level._level c.loop-level.page c.loop-level.invariant.2 entries valid (record { few = few; from_its_root = root; of_its_height = height; lawful = lawful }) c.loop-level-test.true c.in_err-node.field-0.0 c.read_inner.result read c.in_err-node.was);
     }
 
 pub returns-in_default : goal.returns-in_default
@@ -44,7 +44,7 @@ returns-in_default g c =
       refuses_only_damage = inr (inl refl);
       reads_at_most_6_pages = tt;
       arrives = λ entries valid few root height lawful.
-          let chosen = child_is_chosen g.K.KeyKind.kind m c.args.key.now c.args.root c.args.height c.loop-level.-level c.loop-level.page c.loop-level.invariant.2 entries valid (record { few = few; from_its_root = root; of_its_height = height; lawful = lawful }) c.loop-level-test.true c.in_ok-node.node c.read_inner.result read c.in_ok-node.was c.child_for.result c.child_for.ensures.goes_by_the_separators in
+          let chosen = child_is_chosen g.K.KeyKind.kind m c.args.key.now c.args.root c.args.height c.loop-level._level c.loop-level.page c.loop-level.invariant.2 entries valid (record { few = few; from_its_root = root; of_its_height = height; lawful = lawful }) c.loop-level-test.true c.in_ok-node.node c.read_inner.result read c.in_ok-node.was c.child_for.result c.child_for.ensures.goes_by_the_separators in
           let none = c.in_default.is in
           let z : ◌≡◌ {A = ℕ} 0 1 = cc in
           omega arith;
@@ -58,7 +58,7 @@ returns-in_err-leaf g c =
       keeps_the_meaning = c.read_leaf.ensures.keeps_the_meaning ∙ c.loop-level.invariant.0;
       refuses_only_damage = (let p = err_from_is_err_and c.from_residual-in_err-leaf.result c.from_residual-in_err-leaf.ensures.1 in rw (p.1, p.2) (read_shows_damage leaf_image LeafFits leaf_of m c.loop-level.page c.in_err-leaf.field-0.0 c.read_leaf.result read c.in_err-leaf.was));
       reads_at_most_6_pages = search rules;
-      arrives = λ entries valid few root height lawful. absurd (leaf_is_read g.K.KeyKind.kind m c.args.key.now c.args.root c.args.height c.loop-level.-level c.loop-level.page c.loop-level.invariant.2 c.loop-level-test.false entries valid (record { few = few; from_its_root = root; of_its_height = height; lawful = lawful }) c.in_err-leaf.field-0.0 c.read_leaf.result read c.in_err-leaf.was);
+      arrives = λ entries valid few root height lawful. absurd (leaf_is_read g.K.KeyKind.kind m c.args.key.now c.args.root c.args.height c.loop-level._level c.loop-level.page c.loop-level.invariant.2 c.loop-level-test.false entries valid (record { few = few; from_its_root = root; of_its_height = height; lawful = lawful }) c.in_err-leaf.field-0.0 c.read_leaf.result read c.in_err-leaf.was);
     }
 
 pub returns : goal.returns
@@ -68,6 +68,6 @@ returns g c =
     record {
       keeps_the_meaning = c.read_leaf.ensures.keeps_the_meaning ∙ c.loop-level.invariant.0;
       refuses_only_damage = tt;
-      reads_at_most_6_pages = (let e = c.loop-level.invariant.1 in let k = c.loop-level.auto.-level-end in let p = c.requires.has_1_to_6_levels in let n = ap (λ (d : Descent). d.reads) c.arrived.ensures.counts_the_leaf_too in omega (arith, k p.0));
-      arrives = λ entries valid few root height lawful. arrives g.K.KeyKind.kind m c.args.key.now c.args.root c.args.height c.loop-level.-level c.loop-level.page c.loop-level.invariant.2 c.loop-level-test.false entries valid (record { few = few; from_its_root = root; of_its_height = height; lawful = lawful }) c.arrived.result c.read_leaf.result read (c.in_ok-leaf.was ∙ ap Ok (sym (ap (λ (d : Descent). d.leaf) c.arrived.ensures.counts_the_leaf_too))) (ap (λ (d : Descent). d.reads) c.arrived.ensures.counts_the_leaf_too ∙ c.loop-level.invariant.1);
+      reads_at_most_6_pages = (let e = c.loop-level.invariant.1 in let k = c.loop-level.auto._level-end in let p = c.requires.has_1_to_6_levels in let n = ap (λ (d : Descent). d.reads) c.arrived.ensures.counts_the_leaf_too in omega (arith, k p.0));
+      arrives = λ entries valid few root height lawful. arrives g.K.KeyKind.kind m c.args.key.now c.args.root c.args.height c.loop-level._level c.loop-level.page c.loop-level.invariant.2 c.loop-level-test.false entries valid (record { few = few; from_its_root = root; of_its_height = height; lawful = lawful }) c.arrived.result c.read_leaf.result read (c.in_ok-leaf.was ∙ ap Ok (sym (ap (λ (d : Descent). d.leaf) c.arrived.ensures.counts_the_leaf_too))) (ap (λ (d : Descent). d.reads) c.arrived.ensures.counts_the_leaf_too ∙ c.loop-level.invariant.1);
     }
