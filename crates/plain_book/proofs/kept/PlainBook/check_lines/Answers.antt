@@ -21,7 +21,7 @@ loop-j-preserved g c =
     let j = c.loop-j.j in
     let at = c.in-Some.ensures in
     let b : Booking = record { key = c.in-Some.booked.key.now; sign = c.in-Some.booked.line.sign; number = c.in-Some.booked.line.number } in
-    let good : found_answer kind j b list ≡ Accepted tt = ap (λ (t : Bool). standing b.sign t j) (sym c.stands_there.ensures) ∙ sym c.in_ok-judged.ensures in
+    let good : found_answer kind j b list ≡ Accepted tt = ap (λ (t : Bool). standing b.sign t j) (sym c.stands-there.ensures) ∙ sym c.in_ok-judged.ensures in
     c.loop-j.invariant ∙ (found_step bs j b at.0 at.1 kind list ∙ ap (λ (a : Answer Unit). and_then a (found_answers kind (j + 1) (drop (j + 1) bs) list)) good)
 
 pub returns-in_err-judged : goal.returns-in_err-judged
@@ -33,7 +33,7 @@ returns-in_err-judged g c =
     let at = c.in-Some.ensures in
     let b : Booking = record { key = c.in-Some.booked.key.now; sign = c.in-Some.booked.line.sign; number = c.in-Some.booked.line.number } in
     let p = err_from_is_err_and c.from_residual.result c.from_residual.ensures.1 in
-    let bad = ap (λ (t : Bool). standing b.sign t j) (sym c.stands_there.ensures) ∙ sym c.in_err-judged.ensures in
+    let bad = ap (λ (t : Bool). standing b.sign t j) (sym c.stands-there.ensures) ∙ sym c.in_err-judged.ensures in
     rw (p.1, p.2)
     (sym (c.loop-j.invariant ∙ (found_step bs j b at.0 at.1 kind list ∙ ap (λ (a : Answer Unit). and_then a (found_answers kind (j + 1) (drop (j + 1) bs) list)) bad)))
 
