@@ -1,7 +1,7 @@
 -- A file that was written from rows is cut back into them. Assumes nothing.
 use Rattle.std.proofs.Common.{◌≡◌, ℕ, zero, suc, ◌+◌, ◌-◌, ◌*◌, ◌^◌, ◌<◌, ◌≤◌, Bool, true, false, cond, ◌&&◌, ◌||◌, eqb, ltb, leb, List, [], ◌∷◌, ◌++◌, map, length, get_or, take, drop, sym, refl, ap, ◌∙◌, subst, zero-add, mul-suc, arith, length-append, lt-ltb, eq-eqb, le-leb}
 use Rattle.std.proofs.lemmas.List.{take_at, drop_at, drop-drop, append_assoc, append-nil, map-append, length-map}
-use Rattle.std.specs.List.{flat_map as joined, AllByRecursion as All}
+use Rattle.std.specs.List.{flat_map as joined, AllByRecursion}
 use Rattle.numbers.specs.BigEndian.{number_of, bytes_of, Bytes, part, number_at}
 use Rattle.numbers.proofs.Spelling.{length_bytes_of, number_bytes_of, number_between}
 use Rattle.refusals.specs.Refusals.{Answer, Accepted, Refused, wants, and_then}
@@ -42,7 +42,7 @@ content_row first row fits small few =
 lines_more : (row : Row) (rows : List Row) → length (lines_of (row ∷ rows)) ≡ length row.lines + length (lines_of rows)
 lines_more row rows = length-append row.lines (lines_of rows)
 
-contents_of_pieces : (first : ℕ) (rows : List Row) (rest : List ℕ) → All RowFits rows → first + length (lines_of rows) < 2 ^ 32 → map content_of (pieces 32 (length rows) (rows_bytes first rows ++ rest)) ≡ contents_of first rows
+contents_of_pieces : (first : ℕ) (rows : List Row) (rest : List ℕ) → AllByRecursion RowFits rows → first + length (lines_of rows) < 2 ^ 32 → map content_of (pieces 32 (length rows) (rows_bytes first rows ++ rest)) ≡ contents_of first rows
 contents_of_pieces first [] rest fits small = refl
 contents_of_pieces first (row ∷ rows) rest fits small =
     let l = length_row first row fits.0 in
@@ -51,7 +51,7 @@ contents_of_pieces first (row ∷ rows) rest fits small =
     let ih = contents_of_pieces (first + length row.lines) rows rest fits.1 (omega arith) in
     rw (e, take_at (row_bytes first row) (rows_bytes (first + length row.lines) rows ++ rest) 32 l, drop_at (row_bytes first row) (rows_bytes (first + length row.lines) rows ++ rest) 32 l, content_row first row fits.0 (omega arith) (omega arith), ih)
 
-follow_of : (first : ℕ) (rows : List Row) → All RowFits rows → follow first (contents_of first rows) (first + length (lines_of rows)) ≡ true
+follow_of : (first : ℕ) (rows : List Row) → AllByRecursion RowFits rows → follow first (contents_of first rows) (first + length (lines_of rows)) ≡ true
 follow_of first [] fits = eq-eqb first (first + 0) (omega arith)
 follow_of first (row ∷ rows) fits =
     let e : first + length (lines_of (row ∷ rows)) ≡ first + length row.lines + length (lines_of rows) = omega (arith, lines_more row rows) in
@@ -72,7 +72,7 @@ cell_line line small = ap (λ (n : ℕ). record { sign = sign_byte line.sign; nu
 
 -- each number is below 2^63
 abbrev Small : List Line → Type 0
-Small lines = All (λ (line : Line). line.number < 2 ^ 63) lines
+Small lines = AllByRecursion (λ (line : Line). line.number < 2 ^ 63) lines
 
 small_rising : (low : ℕ) (lines : List Line) → Rising low lines → Small lines
 small_rising low [] h = tt
@@ -82,7 +82,7 @@ small_both : (a b : List Line) → Small a → Small b → Small (a ++ b)
 small_both [] b h k = k
 small_both (line ∷ a) b h k = (h.0, small_both a b h.1 k)
 
-pub small_lines : (rows : List Row) → All RowFits rows → Small (lines_of rows)
+pub small_lines : (rows : List Row) → AllByRecursion RowFits rows → Small (lines_of rows)
 small_lines [] fits = tt
 small_lines (row ∷ rows) fits = small_both row.lines (lines_of rows) (small_rising 0 row.lines fits.0.numbers_rise_from_1) (small_lines rows fits.1)
 
@@ -120,7 +120,7 @@ module _ (row : Row) (rows : List Row) where
   rest_cells : drop (length row.lines) (map cell_from (lines_of (row ∷ rows))) ≡ map cell_from (lines_of rows)
   rest_cells = rw (map-append cell_from row.lines (lines_of rows)) (drop_at (map cell_from row.lines) (map cell_from (lines_of rows)) (length row.lines) (length-map row.lines cell_from))
 
-lines_accepted : (j : ℕ) (rows : List Row) → All RowFits rows → lines_answer j (contents_of j rows) (map cell_from (lines_of rows)) ≡ Accepted tt
+lines_accepted : (j : ℕ) (rows : List Row) → AllByRecursion RowFits rows → lines_answer j (contents_of j rows) (map cell_from (lines_of rows)) ≡ Accepted tt
 lines_accepted j [] fits = refl
 lines_accepted j (row ∷ rows) fits =
     rw (front_cells row rows, rest_cells row rows, row_accepted j 0 row.lines fits.0.numbers_rise_from_1) (lines_accepted (j + length row.lines) rows fits.1)
@@ -130,7 +130,7 @@ rows_back first [] = refl
 rows_back first (row ∷ rows) =
     rw (front_cells row rows, rest_cells row rows, lines_back row.lines, rows_back (first + length row.lines) rows)
 
-pub length_rows : (first : ℕ) (rows : List Row) → All RowFits rows → length (rows_bytes first rows) ≡ 32 * length rows
+pub length_rows : (first : ℕ) (rows : List Row) → AllByRecursion RowFits rows → length (rows_bytes first rows) ≡ 32 * length rows
 length_rows first [] fits = refl
 length_rows first (row ∷ rows) fits =
     length-append (row_bytes first row) (rows_bytes (first + length row.lines) rows)

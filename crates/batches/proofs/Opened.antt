@@ -6,7 +6,7 @@ use Rattle.refusals.proofs.Answering.{met_from_accepted, first_accepted, rest_ac
 use Rattle.batches.specs.declared.line.Line.{Line}
 use Rattle.batches.specs.Layout.{Row, lines_of}
 use Rattle.batches.specs.Reading.{row_count, line_count, Content, contents_in, Cell, cells_in, line_of, rows_of, rows_in}
-use Rattle.std.specs.List.{AllByRecursion as All}
+use Rattle.std.specs.List.{AllByRecursion}
 use Rattle.batches.specs.Opening.{has_sign, good_cell, row_answer, has_letters, counts_fit, length_fits, follow, lines_answer, open_answer}
 use Rattle.batches.proofs.Pieces.{length_contents, length_cells}
 use Rattle.batches.proofs.Steps.{and_left, and_right, follow_parts, follow_bound, length_is}
@@ -24,7 +24,7 @@ below_of_good low cell g =
     ltb-true cell.number (2 ^ 63) (and_right (ltb low cell.number) (ltb cell.number (2 ^ 63)) (and_right (has_sign cell) (ltb low cell.number && ltb cell.number (2 ^ 63)) g))
 
 abbrev pub Signed : List Cell → Type 0
-Signed cells = All (λ (cell : Cell). has_sign cell ≡ true) cells
+Signed cells = AllByRecursion (λ (cell : Cell). has_sign cell ≡ true) cells
 
 -- in a row that is accepted every line has a sign, and the numbers rise
 module _ (j low : ℕ) (cell : Cell) (cells : List Cell) (e : row_answer j low (cell ∷ cells) ≡ Accepted tt) where

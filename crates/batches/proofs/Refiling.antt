@@ -1,7 +1,7 @@
 -- Bytes that open are the file of the rows that they hold. Assumes nothing.
 use Rattle.std.proofs.Common.{◌≡◌, ℕ, zero, suc, ◌+◌, ◌-◌, ◌*◌, ◌^◌, ◌<◌, ◌≤◌, Bool, true, false, cond, ◌&&◌, ◌||◌, eqb, ltb, leb, List, [], ◌∷◌, ◌++◌, map, length, get_or, take, drop, sym, refl, ap, ◌∙◌, subst, mul-zero, zero-add, mul-suc, arith, length-append, take-add, ltb-true, eqb-true, leb-true}
 use Rattle.std.proofs.lemmas.List.{take_at, drop_at, drop-drop, append_assoc, append-nil, map-append, length-map, length-take, length-drop, take-append-drop, nil_from_length, length-take-le, take_all}
-use Rattle.std.specs.List.{flat_map, AllByRecursion as All}
+use Rattle.std.specs.List.{flat_map, AllByRecursion}
 use Rattle.numbers.specs.BigEndian.{number_of, bytes_of, Bytes, part, number_at}
 use Rattle.std.proofs.lemmas.Bool.Decides.{nat_tests}
 use Rattle.batches.proofs.Pieces.{length_contents, length_cells}
@@ -40,7 +40,7 @@ bytes_rest zero xs h = h
 bytes_rest (suc n) [] h = tt
 bytes_rest (suc n) (x ∷ xs) h = bytes_rest n xs h.1
 
-each_piece : (width count : ℕ) (bytes : List ℕ) → width * count ≤ length bytes → Bytes bytes → All (Piece width) (pieces width count bytes)
+each_piece : (width count : ℕ) (bytes : List ℕ) → width * count ≤ length bytes → Bytes bytes → AllByRecursion (Piece width) (pieces width count bytes)
 each_piece width zero bytes e h = tt
 each_piece width (suc count) bytes e h = (
   record { long = length-take-le width bytes (omega (arith, mul-suc width count)); bytes = bytes_front width bytes h },
@@ -85,7 +85,7 @@ rising_row j low (cell ∷ cells) e =
     let good = good_first j low cell cells e in
     (above_of_good low cell good, below_of_good low cell good, rising_row (suc j) cell.number cells (good_rest j low cell cells e))
 
-rows_bytes_of_pieces : (next end : ℕ) (ps : List (List ℕ)) (cells : List Cell) → All (Piece 32) ps → follow next (map content_of ps) end ≡ true → next + length cells ≡ end → rows_bytes next (rows_of (map content_of ps) cells) ≡ flat_map (λ (piece : List ℕ). piece) ps
+rows_bytes_of_pieces : (next end : ℕ) (ps : List (List ℕ)) (cells : List Cell) → AllByRecursion (Piece 32) ps → follow next (map content_of ps) end ≡ true → next + length cells ≡ end → rows_bytes next (rows_of (map content_of ps) cells) ≡ flat_map (λ (piece : List ℕ). piece) ps
 rows_bytes_of_pieces next end [] cells all f e = refl
 rows_bytes_of_pieces next end (piece ∷ ps) cells all f e =
     let n = number_at 4 piece 28 in
@@ -98,14 +98,14 @@ rows_bytes_of_pieces next end (piece ∷ ps) cells all f e =
     ∙ ap (λ (m : ℕ). piece ++ rows_bytes (next + m) (rows_of (map content_of ps) (drop n cells))) count
     ∙ ap (λ (xs : List ℕ). piece ++ xs) ih
 
-lines_bytes : (ps : List (List ℕ)) → All (Piece 9) ps → Signed (map cell_of ps) → flat_map line_bytes (map line_of (map cell_of ps)) ≡ flat_map (λ (piece : List ℕ). piece) ps
+lines_bytes : (ps : List (List ℕ)) → AllByRecursion (Piece 9) ps → Signed (map cell_of ps) → flat_map line_bytes (map line_of (map cell_of ps)) ≡ flat_map (λ (piece : List ℕ). piece) ps
 lines_bytes [] all signed = refl
 lines_bytes (piece ∷ ps) all signed =
     ap (λ (xs : List ℕ). xs ++ flat_map line_bytes (map line_of (map cell_of ps))) (line_bytes_of_piece piece all.0 signed.0)
     ∙ ap (λ (xs : List ℕ). piece ++ xs) (lines_bytes ps all.1 signed.1)
 
 -- each row fits
-rows_fit : (j next end : ℕ) (ps : List (List ℕ)) (cells : List Cell) → All (Piece 32) ps → follow next (map content_of ps) end ≡ true → next + length cells ≡ end → lines_answer j (map content_of ps) cells ≡ Accepted tt → All RowFits (rows_of (map content_of ps) cells)
+rows_fit : (j next end : ℕ) (ps : List (List ℕ)) (cells : List Cell) → AllByRecursion (Piece 32) ps → follow next (map content_of ps) end ≡ true → next + length cells ≡ end → lines_answer j (map content_of ps) cells ≡ Accepted tt → AllByRecursion RowFits (rows_of (map content_of ps) cells)
 rows_fit j next end [] cells all f e a = tt
 rows_fit j next end (piece ∷ ps) cells all f e a =
     let n = number_at 4 piece 28 in
@@ -136,10 +136,10 @@ module _ (bytes : List ℕ) (real : Bytes bytes) (opened : open_answer bytes ≡
       let h : get_or bytes 7 0 ≡ 0 = grind (arith, nat_tests) in
       part_cells bytes 0 0 8 (omega (arith, (rows_length bytes opened))) ∙ rw (a, b, d, e, f, g, h)
 
-  rows_read : All (Piece 32) (pieces 32 (row_count bytes) (drop 16 bytes))
+  rows_read : AllByRecursion (Piece 32) (pieces 32 (row_count bytes) (drop 16 bytes))
   rows_read = each_piece 32 (row_count bytes) (drop 16 bytes) (omega (arith, (rows_length bytes opened), length-drop 16 bytes)) (bytes_rest 16 bytes real)
 
-  lines_read : All (Piece 9) (pieces 9 (line_count bytes) (drop (16 + 32 * row_count bytes) bytes))
+  lines_read : AllByRecursion (Piece 9) (pieces 9 (line_count bytes) (drop (16 + 32 * row_count bytes) bytes))
   lines_read = each_piece 9 (line_count bytes) (drop (16 + 32 * row_count bytes) bytes) (omega (arith, (rows_length bytes opened), length-drop (16 + 32 * row_count bytes) bytes)) (bytes_rest (16 + 32 * row_count bytes) bytes real)
 
   head_bytes_are_back : head_bytes (kind_code bytes) (length (rows_in bytes)) (length (lines_of (rows_in bytes))) ≡ take 16 bytes

@@ -1,7 +1,7 @@
 -- The reversal of a file is the file of the reversed rows. Assumes nothing.
 use Rattle.std.proofs.Common.{◌≡◌, ℕ, zero, suc, ◌+◌, ◌-◌, ◌*◌, ◌^◌, ◌<◌, ◌≤◌, Bool, true, false, cond, eqb, List, [], ◌∷◌, ◌++◌, map, length, get_or, take, drop, set, sym, refl, ap, ◌∙◌, subst, mul-suc, arith, length-append}
 use Rattle.std.proofs.lemmas.List.{take_at, drop_at, drop-drop, set_at, get_or_at, append_assoc, append-nil, map-append, length-map, length-take-le, length-drop, take-append-drop, drop_all}
-use Rattle.std.specs.List.{flat_map, AllByRecursion as All}
+use Rattle.std.specs.List.{flat_map, AllByRecursion}
 use Rattle.numbers.specs.BigEndian.{bytes_of}
 use Rattle.refusals.specs.Refusals.{Answer, Accepted, is_accepted}
 use Rattle.batches.specs.declared.line.Sign.{Sign}
@@ -97,7 +97,7 @@ rising_reversed : (low : ℕ) (lines : List Line) → Rising low lines → Risin
 rising_reversed low [] h = tt
 rising_reversed low (line ∷ lines) h = (h.0, h.1, rising_reversed line.number lines h.2)
 
-rows_fit_reversed : (rows : List Row) → All RowFits rows → All RowFits (map reversed_row rows)
+rows_fit_reversed : (rows : List Row) → AllByRecursion RowFits rows → AllByRecursion RowFits (map reversed_row rows)
 rows_fit_reversed [] h = tt
 rows_fit_reversed (row ∷ rows) h = (
   record {

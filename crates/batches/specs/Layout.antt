@@ -1,6 +1,6 @@
 -- What a batch file is: a function from a kind code and rows with their lines to bytes.
 use Rattle.std.specs.Prelude.{◌≡◌, ℕ, ◌+◌, ◌^◌, ◌<◌, ◌≤◌, List, [], ◌∷◌, ◌++◌, length, codes}
-use Rattle.std.specs.List.{flat_map, AllByRecursion as All}
+use Rattle.std.specs.List.{flat_map, AllByRecursion}
 use Rattle.numbers.specs.BigEndian.{bytes_of, Bytes}
 use Rattle.batches.specs.declared.line.Sign.{Sign}
 use Rattle.batches.specs.declared.line.Sign.TheVariants.{Posting, Cancelling}
@@ -58,7 +58,7 @@ pub record FileFits (code : ℕ) (rows : List Row) : Type 0 where
   pub code_is_a_byte : code < 256
   pub at_most_1024_rows : length rows ≤ 1024
   pub at_most_1024_lines : length (lines_of rows) ≤ 1024
-  pub each_row_fits : All RowFits rows
+  pub each_row_fits : AllByRecursion RowFits rows
 
 -- bytes have the layout if they are the file of some kind code and rows
 pub record HasLayout (bytes : List ℕ) : Type 0 where

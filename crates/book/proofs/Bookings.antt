@@ -1,7 +1,7 @@
 -- The lines of a batch under their keys: keys and numbers rise, so each key and number occurs once.
 use Rattle.std.proofs.Common.{◌≡◌, ℕ, suc, ◌+◌, ◌^◌, ◌<◌, ◌≤◌, Bool, true, false, cond, not, ◌&&◌, eqb, List, [], ◌∷◌, ◌++◌, map, Some, None, Option, sym, refl, ap, ◌∙◌, arith}
 use Rattle.std.specs.Ordering.{is_eq}
-use Rattle.std.specs.List.{flat_map, AllByRecursion as All}
+use Rattle.std.specs.List.{flat_map, AllByRecursion}
 use Rattle.std.proofs.lemmas.Bool.{true≢false, and_parts, eqb-true, eq-eqb}
 use Rattle.std.proofs.ByRecursion.{All-append, All-weaker}
 use Rattle.refusals.specs.Refusals.{Answer, Accepted, Refused, wants, and_then}
@@ -50,18 +50,18 @@ Other b c = c.key ≡ b.key → c.number ≡ b.number → ⊥
 -- each key and number once, all keys lawful
 abbrev pub Once : Kind → List Booking → Type 0
 Once kind [] = Unit {0}
-Once kind (b ∷ bs) = (kind.lawful b.key ≡ true) × All (Other b) bs × Once kind bs
+Once kind (b ∷ bs) = (kind.lawful b.key ≡ true) × AllByRecursion (Other b) bs × Once kind bs
 
 abbrev booking : Field → Line → Booking
 booking key line = record { key = key; sign = line.sign; number = line.number }
 
-later_numbers : (key : Field) (low : ℕ) (lines : List Line) → Rising low lines → All (λ (b : Booking). low < b.number) (map (booking key) lines)
+later_numbers : (key : Field) (low : ℕ) (lines : List Line) → Rising low lines → AllByRecursion (λ (b : Booking). low < b.number) (map (booking key) lines)
 later_numbers key low [] r = tt
 later_numbers key low (line ∷ lines) r =
     (r.0, All-weaker (λ (b : Booking). line.number < b.number) (λ (b : Booking). low < b.number) (λ b h. omega arith) (map (booking key) lines) (later_numbers key line.number lines r.2))
 
 once_row : (kind : Kind) (key : Field) (low : ℕ) (lines : List Line) (later : List Booking) → kind.lawful key ≡ true → Rising low lines
-    → All (λ (b : Booking). b.key ≡ key → ⊥) later → Once kind later → Once kind (map (booking key) lines ++ later)
+    → AllByRecursion (λ (b : Booking). b.key ≡ key → ⊥) later → Once kind later → Once kind (map (booking key) lines ++ later)
 once_row kind key low [] later lk r apart o = o
 once_row kind key low (line ∷ lines) later lk r apart o = (
   lk,
@@ -71,12 +71,12 @@ once_row kind key low (line ∷ lines) later lk r apart o = (
   once_row kind key line.number lines later lk r.2 apart o,
 )
 
-above_row : (kind : Kind) (low key : Field) (lines : List Line) → below kind low key ≡ true → All (λ (b : Booking). below kind low b.key ≡ true) (map (booking key) lines)
+above_row : (kind : Kind) (low key : Field) (lines : List Line) → below kind low key ≡ true → AllByRecursion (λ (b : Booking). below kind low b.key ≡ true) (map (booking key) lines)
 above_row kind low key [] h = tt
 above_row kind low key (line ∷ lines) h = (h, above_row kind low key lines h)
 
 above_rows : (kind : Kind) (low bound : Field) (rows : List Row) → kind.lawful low ≡ true → kind.lawful bound ≡ true → ((c : Field) → kind.lawful c ≡ true → below kind bound c ≡ true → below kind low c ≡ true)
-    → KeysRise kind (Some bound) rows → All (λ (b : Booking). below kind low b.key ≡ true) (lines_under rows)
+    → KeysRise kind (Some bound) rows → AllByRecursion (λ (b : Booking). below kind low b.key ≡ true) (lines_under rows)
 above_rows kind low bound [] ll lb up k = tt
 above_rows kind low bound (row ∷ rows) ll lb up k =
     let here = up row.key k.0 k.1 in
@@ -94,11 +94,11 @@ once_rows kind before (row ∷ rows) k r =
     (above_rows kind row.key row.key rows k.0 k.0 (λ c lc h. h) k.2))
     (once_rows kind (Some row.key) rows k.2 r.1)
 
-lawful_row : (kind : Kind) (key : Field) (lines : List Line) → kind.lawful key ≡ true → All (λ (b : Booking). kind.lawful b.key ≡ true) (map (booking key) lines)
+lawful_row : (kind : Kind) (key : Field) (lines : List Line) → kind.lawful key ≡ true → AllByRecursion (λ (b : Booking). kind.lawful b.key ≡ true) (map (booking key) lines)
 lawful_row kind key [] lk = tt
 lawful_row kind key (line ∷ lines) lk = (lk, lawful_row kind key lines lk)
 
-pub lawful_lines : (kind : Kind) (before : Option Field) (rows : List Row) → KeysRise kind before rows → All (λ (b : Booking). kind.lawful b.key ≡ true) (lines_under rows)
+pub lawful_lines : (kind : Kind) (before : Option Field) (rows : List Row) → KeysRise kind before rows → AllByRecursion (λ (b : Booking). kind.lawful b.key ≡ true) (lines_under rows)
 lawful_lines kind before [] k = tt
 lawful_lines kind before (row ∷ rows) k =
     All-append (λ (b : Booking). kind.lawful b.key ≡ true) (bookings_of row) (lines_under rows) (lawful_row kind row.key row.lines k.0) (lawful_lines kind (Some row.key) rows k.2)
@@ -107,11 +107,11 @@ lawful_lines kind before (row ∷ rows) k =
 abbrev pub Sound : Kind → Booking → Type 0
 Sound kind b = (kind.lawful b.key ≡ true) × PostingNumber b.number
 
-sound_row : (kind : Kind) (key : Field) (low : ℕ) (lines : List Line) → kind.lawful key ≡ true → Rising low lines → All (Sound kind) (map (booking key) lines)
+sound_row : (kind : Kind) (key : Field) (low : ℕ) (lines : List Line) → kind.lawful key ≡ true → Rising low lines → AllByRecursion (Sound kind) (map (booking key) lines)
 sound_row kind key low [] lk r = tt
 sound_row kind key low (line ∷ lines) lk r = ((lk, (omega arith, r.1)), sound_row kind key line.number lines lk r.2)
 
-pub sound_rows : (kind : Kind) (before : Option Field) (rows : List Row) → KeysRise kind before rows → RowsRise rows → All (Sound kind) (lines_under rows)
+pub sound_rows : (kind : Kind) (before : Option Field) (rows : List Row) → KeysRise kind before rows → RowsRise rows → AllByRecursion (Sound kind) (lines_under rows)
 sound_rows kind before [] k r = tt
 sound_rows kind before (row ∷ rows) k r =
     All-append (Sound kind) (bookings_of row) (lines_under rows) (sound_row kind row.key 0 row.lines k.0 r.0) (sound_rows kind (Some row.key) rows k.2 r.1)
@@ -166,7 +166,7 @@ named kind key n b lk lb e =
     let both = and_parts (is_eq (kind.order key b.key)) (eqb n b.number) e in
     (equal_from kind key b.key lk lb both.0, eqb-true n b.number both.1)
 
-unnamed : (kind : Kind) (b : Booking) (key : Field) (n : ℕ) (bs : List Booking) → kind.lawful key ≡ true → key ≡ b.key → n ≡ b.number → All (Other b) bs → Once kind bs → posts_of kind key n bs + cancels_of kind key n bs ≡ 0
+unnamed : (kind : Kind) (b : Booking) (key : Field) (n : ℕ) (bs : List Booking) → kind.lawful key ≡ true → key ≡ b.key → n ≡ b.number → AllByRecursion (Other b) bs → Once kind bs → posts_of kind key n bs + cancels_of kind key n bs ≡ 0
 unnamed kind b key n [] lk e f a o = refl
 unnamed kind b key n (c ∷ bs) lk e f a o = go (names kind key n c) refl (unnamed kind b key n bs lk e f a.1 o.2)
   where

@@ -1,7 +1,7 @@
 -- What a change under one key does to a sorted list of keys: that key has the new value, every other what it had.
 use Rattle.std.proofs.Common.{◌≡◌, ℕ, Bool, true, false, cond, ◌⊎◌, List, [], ◌∷◌, ◌++◌, Some, None, Option, Ordering, Less, Equal, Greater, sym, refl, ap, ◌∙◌, subst, inl, inr}
 use Rattle.std.specs.Ordering.{is_eq}
-use Rattle.std.specs.List.{AllByRecursion as All}
+use Rattle.std.specs.List.{AllByRecursion}
 use Rattle.keys.specs.Kinds.{Kind, Field, below}
 use Rattle.keys.proofs.Orders.{order_same, same_from_order, less_from_below, below_from_less, below_from_greater, below_transitive}
 use Rattle.batches.specs.KeyCheck.{above}
@@ -111,24 +111,24 @@ module _ {V : Type 0} (kind : Kind) (keeping : Keeping V) (clear : (v : V) → k
           put_other other key (f held.value) rest (other_key kind other key lo lk ne) ∙ rw skips
       go Greater e ih = ap (λ (v : V). cond (is_eq (kind.order other held.key)) held.value v) ih
 
-  put_all : (P : Held V → Type 0) (key : Field) (v : V) (rest : List (Held V)) → (keeping.is_none v ≡ false → P (record { key = key; value = v })) → All P rest → All P (put keeping key v rest)
+  put_all : (P : Held V → Type 0) (key : Field) (v : V) (rest : List (Held V)) → (keeping.is_none v ≡ false → P (record { key = key; value = v })) → AllByRecursion P rest → AllByRecursion P (put keeping key v rest)
   put_all P key v rest h a = go (keeping.is_none v) refl
     where
-      go : (b : Bool) → keeping.is_none v ≡ b → All P (cond b rest (record { key = key; value = v } ∷ rest))
+      go : (b : Bool) → keeping.is_none v ≡ b → AllByRecursion P (cond b rest (record { key = key; value = v } ∷ rest))
       go true e = a
       go false e = (h e, a)
 
   -- what holds of each key and of the changed one holds after
   pub changed_all : (P : Held V → Type 0) (before : Option Field) (key : Field) (f : V → V) (list : List (Held V)) → kind.lawful key ≡ true → SortedFrom kind before list
-      → (keeping.is_none (f (value_at kind keeping key list)) ≡ false → P (record { key = key; value = f (value_at kind keeping key list) })) → All P list → All P (changed kind keeping key f list)
+      → (keeping.is_none (f (value_at kind keeping key list)) ≡ false → P (record { key = key; value = f (value_at kind keeping key list) })) → AllByRecursion P list → AllByRecursion P (changed kind keeping key f list)
   changed_all P before key f [] lk s h a = put_all P key (f keeping.none) [] h tt
   changed_all P before key f (held ∷ rest) lk s h a = go (kind.order key held.key) refl h (λ g. changed_all P (Some held.key) key f rest lk s.2 g a.1)
     where
       Fine : V → Type 0
       Fine v = keeping.is_none (f v) ≡ false → P (record { key = key; value = f v })
 
-      go : (o : Ordering) → kind.order key held.key ≡ o → Fine (cond (is_eq o) held.value (value_at kind keeping key rest)) → (Fine (value_at kind keeping key rest) → All P (changed kind keeping key f rest))
-          → All P (by_order o (put keeping key (f keeping.none) (held ∷ rest)) (put keeping key (f held.value) rest) (held ∷ changed kind keeping key f rest))
+      go : (o : Ordering) → kind.order key held.key ≡ o → Fine (cond (is_eq o) held.value (value_at kind keeping key rest)) → (Fine (value_at kind keeping key rest) → AllByRecursion P (changed kind keeping key f rest))
+          → AllByRecursion P (by_order o (put keeping key (f keeping.none) (held ∷ rest)) (put keeping key (f held.value) rest) (held ∷ changed kind keeping key f rest))
       go Less e h ih =
           let gone : value_at kind keeping key rest ≡ keeping.none = absent key rest lk (sorted_lower (Some key) held.key rest lk s.0 (below_from_less kind key held.key e) s.2) in
           put_all P key (f keeping.none) (held ∷ rest) (subst Fine gone h) a

@@ -2,7 +2,7 @@
 use Rattle.std.proofs.Common.{◌≡◌, ℕ, suc, ◌+◌, ◌<◌, ◌≤◌, Bool, true, false, cond, eqb, leb, ◌⊎◌, List, [], ◌∷◌, ◌++◌, length, sym, refl, ap, ◌∙◌, inl, inr, arith}
 use Rattle.std.proofs.lemmas.Bool.{eq-eqb, ne_eqb, cases_eq, eqb-true, cond-true, cond-false, le-leb, lt-leb, leb-true, leb-false}
 use Rattle.std.proofs.lemmas.Bool.Decides.{nat_tests}
-use Rattle.std.specs.List.{AllByRecursion as All}
+use Rattle.std.specs.List.{AllByRecursion}
 use Rattle.book.specs.Books.{count, has, without}
 
 -- 1 for the number itself, 0 for another
@@ -69,11 +69,11 @@ without_back n (p ∷ ps) qs h = go (cases_eq n p) (λ k. without_back n ps qs k
     go (inl e) ih = absurd (omega (arith, one_same n p e))
     go (inr e) ih = rw (ne_eqb n p e) (ap (λ (rest : List ℕ). p ∷ rest) (ih (omega (arith, one_other n p e))))
 
-pub all_without : (P : ℕ → Type 0) (n : ℕ) (ps : List ℕ) → All P ps → All P (without n ps)
+pub all_without : (P : ℕ → Type 0) (n : ℕ) (ps : List ℕ) → AllByRecursion P ps → AllByRecursion P (without n ps)
 all_without P n [] a = tt
 all_without P n (p ∷ ps) a = go (eqb n p) (all_without P n ps a.1)
   where
-    go : (b : Bool) → All P (without n ps) → All P (cond b ps (p ∷ without n ps))
+    go : (b : Bool) → AllByRecursion P (without n ps) → AllByRecursion P (cond b ps (p ∷ without n ps))
     go true ih = a.1
     go false ih = (a.0, ih)
 

@@ -1,7 +1,7 @@
 -- Lookups and listings: how much they write, and what a listing has of each key.
 use Rattle.std.proofs.Common.{◌≡◌, ℕ, zero, suc, ◌+◌, ◌-◌, ◌*◌, ◌/◌, ◌%◌, ◌<◌, ◌≤◌, min, Bool, true, false, cond, not, ◌&&◌, ◌⊎◌, List, [], ◌∷◌, ◌++◌, map, length, take, drop, Some, None, filter, Option, sym, refl, ap, ◌∙◌, subst, ⊎_elim, arith}
 use Rattle.std.specs.Ordering.{is_eq}
-use Rattle.std.specs.List.{flat_map, AllByRecursion as All}
+use Rattle.std.specs.List.{flat_map, AllByRecursion}
 use Rattle.std.proofs.lemmas.List.{length-take, length-drop, length-append, length-map, append-nil}
 use Rattle.std.proofs.ByRecursion.{All-append, All-weaker, All-take, All-drop}
 use Rattle.refusals.specs.Refusals.{Answer, Accepted, Refused, on_accepted}
@@ -31,21 +31,21 @@ lookups_fill kind book key list = record {
 abbrev pub LawfulRow : Kind → Listed → Type 0
 LawfulRow kind row = kind.lawful row.key ≡ true
 
-pub length_rows : (kind : Kind) (rows : List Listed) → All (LawfulRow kind) rows → length (flat_map listed_bytes rows) ≡ 32 * length rows
+pub length_rows : (kind : Kind) (rows : List Listed) → AllByRecursion (LawfulRow kind) rows → length (flat_map listed_bytes rows) ≡ 32 * length rows
 length_rows kind [] a = refl
 length_rows kind (row ∷ rows) a =
     length-append (listed_bytes row) (flat_map listed_bytes rows)
     ∙ omega (arith, length-append row.key (bytes_of 8 row.posting), kind.fields_have_24_bytes row.key a.0, length_bytes_of 8 row.posting, length_rows kind rows a.1)
 
-lawful_under : (kind : Kind) (key : Field) (ps : List ℕ) → kind.lawful key ≡ true → All (LawfulRow kind) (rows_under (record { key = key; value = ps }))
+lawful_under : (kind : Kind) (key : Field) (ps : List ℕ) → kind.lawful key ≡ true → AllByRecursion (LawfulRow kind) (rows_under (record { key = key; value = ps }))
 lawful_under kind key [] l = tt
 lawful_under kind key (p ∷ ps) l = (l, lawful_under kind key ps l)
 
-pub lawful_listed : (kind : Kind) (before : Option Field) (book : Book) (test : Held (List ℕ) → Bool) → SortedFrom kind before book → All (LawfulRow kind) (flat_map rows_under (filter test book))
+pub lawful_listed : (kind : Kind) (before : Option Field) (book : Book) (test : Held (List ℕ) → Bool) → SortedFrom kind before book → AllByRecursion (LawfulRow kind) (flat_map rows_under (filter test book))
 lawful_listed kind before [] test s = tt
 lawful_listed kind before (h ∷ rest) test s = go (test h) (lawful_listed kind (Some h.key) rest test s.2)
   where
-    go : (b : Bool) → All (LawfulRow kind) (flat_map rows_under (filter test rest)) → All (LawfulRow kind) (flat_map rows_under (cond b (h ∷ filter test rest) (filter test rest)))
+    go : (b : Bool) → AllByRecursion (LawfulRow kind) (flat_map rows_under (filter test rest)) → AllByRecursion (LawfulRow kind) (flat_map rows_under (cond b (h ∷ filter test rest) (filter test rest)))
     go true ih = All-append (LawfulRow kind) (rows_under h) (flat_map rows_under (filter test rest)) (lawful_under kind h.key h.value s.0) ih
     go false ih = ih
 
@@ -64,7 +64,7 @@ listings_fill kind book first second skip buffer s = record {
     fits : length (take (length buffer / 32) (drop skip all)) ≡ min (length all - skip) (length buffer / 32)
     fits = length-take (length buffer / 32) (drop skip all) ∙ omega (arith, length-drop skip all)
 
-    lawful : All (LawfulRow kind) rows
+    lawful : AllByRecursion (LawfulRow kind) rows
     lawful = All-take (LawfulRow kind) (length buffer / 32) (drop skip all) (All-drop (LawfulRow kind) skip all (lawful_listed kind None book (λ (h : Held (List ℕ)). within kind first second h.key) s))
 
     go : (a : Answer Unit) → length (on_accepted a (buffer_with rows buffer) buffer) ≡ length buffer
@@ -114,23 +114,23 @@ module _ (kind : Kind) (first second : Field) where
 abbrev RowAbove : Kind → Field → Listed → Type 0
 RowAbove kind low row = (kind.lawful row.key ≡ true) × (below kind low row.key ≡ true)
 
-above_under : (kind : Kind) (low key : Field) (ps : List ℕ) → kind.lawful key ≡ true → below kind low key ≡ true → All (RowAbove kind low) (rows_under (record { key = key; value = ps }))
+above_under : (kind : Kind) (low key : Field) (ps : List ℕ) → kind.lawful key ≡ true → below kind low key ≡ true → AllByRecursion (RowAbove kind low) (rows_under (record { key = key; value = ps }))
 above_under kind low key [] lk h = tt
 above_under kind low key (p ∷ ps) lk h = ((lk, h), above_under kind low key ps lk h)
 
-above_listed : (kind : Kind) (low : Field) (book : Book) (test : Held (List ℕ) → Bool) → kind.lawful low ≡ true → SortedFrom kind (Some low) book → All (RowAbove kind low) (flat_map rows_under (filter test book))
+above_listed : (kind : Kind) (low : Field) (book : Book) (test : Held (List ℕ) → Bool) → kind.lawful low ≡ true → SortedFrom kind (Some low) book → AllByRecursion (RowAbove kind low) (flat_map rows_under (filter test book))
 above_listed kind low [] test ll s = tt
 above_listed kind low (h ∷ rest) test ll s = go (test h) (above_listed kind low rest test ll (sorted_lower kind plain plain_follows.clear (Some low) h.key rest ll s.0 s.1 s.2))
   where
-    go : (b : Bool) → All (RowAbove kind low) (flat_map rows_under (filter test rest)) → All (RowAbove kind low) (flat_map rows_under (cond b (h ∷ filter test rest) (filter test rest)))
+    go : (b : Bool) → AllByRecursion (RowAbove kind low) (flat_map rows_under (filter test rest)) → AllByRecursion (RowAbove kind low) (flat_map rows_under (cond b (h ∷ filter test rest) (filter test rest)))
     go true ih = All-append (RowAbove kind low) (rows_under h) (flat_map rows_under (filter test rest)) (above_under kind low h.key h.value s.0 s.1) ih
     go false ih = ih
 
-not_below_under : (kind : Kind) (key : Field) (ps : List ℕ) → kind.lawful key ≡ true → All (λ (later : Listed). below kind later.key key ≡ false) (rows_under (record { key = key; value = ps }))
+not_below_under : (kind : Kind) (key : Field) (ps : List ℕ) → kind.lawful key ≡ true → AllByRecursion (λ (later : Listed). below kind later.key key ≡ false) (rows_under (record { key = key; value = ps }))
 not_below_under kind key [] lk = tt
 not_below_under kind key (p ∷ ps) lk = (below_irreflexive kind key lk, not_below_under kind key ps lk)
 
-ordered_under : (kind : Kind) (key : Field) (ps : List ℕ) (later : List Listed) → kind.lawful key ≡ true → All (RowAbove kind key) later → InKeyOrder kind later → InKeyOrder kind (rows_under (record { key = key; value = ps }) ++ later)
+ordered_under : (kind : Kind) (key : Field) (ps : List ℕ) (later : List Listed) → kind.lawful key ≡ true → AllByRecursion (RowAbove kind key) later → InKeyOrder kind later → InKeyOrder kind (rows_under (record { key = key; value = ps }) ++ later)
 ordered_under kind key [] later lk a o = o
 ordered_under kind key (p ∷ ps) later lk a o = (
   All-append (λ (row : Listed). below kind row.key key ≡ false) (rows_under (record { key = key; value = ps })) later (not_below_under kind key ps lk)

@@ -1,6 +1,6 @@
 -- The laws of merging: all or none, checked before, counting, reversal.
 use Rattle.std.proofs.Common.{◌≡◌, ℕ, suc, ◌+◌, ◌<◌, ◌≤◌, Bool, true, false, cond, not, ◌&&◌, eqb, List, [], ◌∷◌, ◌++◌, map, Some, None, Option, sym, refl, ap, ◌∙◌, subst, arith}
-use Rattle.std.specs.List.{AllByRecursion as All}
+use Rattle.std.specs.List.{AllByRecursion}
 use Rattle.refusals.specs.Refusals.{Answer, Accepted, Refused, and_then, on_accepted}
 use Rattle.keys.specs.Kinds.{Kind, Field}
 use Rattle.batches.specs.Layout.{Row}
@@ -102,7 +102,7 @@ reversals_restore kind free code rows book after i r e =
     back : List Row
     back = map reversed_row rows
 
-    sound : All (Sound kind) (lines_under rows)
+    sound : AllByRecursion (Sound kind) (lines_under rows)
     sound = sound_rows kind None rows m.keys_are_rising r
 
     keys : KeysRise kind None back

@@ -1,7 +1,7 @@
 -- Entries follow their lines, keep to the sizes, and spell the book.
 use Rattle.std.proofs.Common.{◌≡◌, ℕ, suc, ◌+◌, ◌*◌, ◌<◌, ◌≤◌, Bool, true, false, cond, not, ◌&&◌, ltb, leb, ◌⊎◌, List, [], ◌∷◌, ◌++◌, map, length, Some, None, Option, Ordering, Less, Equal, Greater, sym, refl, ap, ◌∙◌, subst, inl, inr, arith}
 use Rattle.std.specs.Ordering.{is_eq}
-use Rattle.std.specs.List.{flat_map, AllByRecursion as All}
+use Rattle.std.specs.List.{flat_map, AllByRecursion}
 use Rattle.std.proofs.lemmas.Bool.{true≢false, and_parts, ltb-true, ltb-false, leb-true, leb-false}
 use Rattle.std.proofs.lemmas.List.{append_assoc, append-nil, length-append}
 use Rattle.refusals.specs.Refusals.{Answer, Accepted, Refused, wants, and_then}
@@ -93,11 +93,11 @@ postings_applied Cancelling n entry = postings_cancelled n entry
 abbrev RecordFits : List ℕ → Type 0
 RecordFits r = (1 ≤ length r) × (length r ≤ 60)
 
-moved_fits : (three : List ℕ) (rs : List (List ℕ)) → 3 ≤ length three → length three ≤ 3 → All RecordFits rs → All RecordFits (moved three rs)
+moved_fits : (three : List ℕ) (rs : List (List ℕ)) → 3 ≤ length three → length three ≤ 3 → AllByRecursion RecordFits rs → AllByRecursion RecordFits (moved three rs)
 moved_fits three [] l m a = ((omega arith, omega arith), tt)
 moved_fits three (head ∷ rest) l m a = go (leb (length head) 57) refl
   where
-    go : (b : Bool) → leb (length head) 57 ≡ b → All RecordFits (cond b ((three ++ head) ∷ rest) (three ∷ head ∷ rest))
+    go : (b : Bool) → leb (length head) 57 ≡ b → AllByRecursion RecordFits (cond b ((three ++ head) ∷ rest) (three ∷ head ∷ rest))
     go true e = let short = leb-true (length head) 57 e in ((rw (length-append three head) (omega arith), rw (length-append three head) (omega arith)), a.1)
     go false e = ((omega arith, omega arith), a)
 
@@ -108,15 +108,15 @@ posted_sizes n entry s = go (ltb (length entry.inline) 3) refl
     go true e = record { at_most_3_inline = omega (arith, ltb-true (length entry.inline) 3 e); records_hold_1_to_60 = s.records_hold_1_to_60 }
     go false e = record { at_most_3_inline = omega arith; records_hold_1_to_60 = moved_fits entry.inline entry.records (ltb-false (length entry.inline) 3 e) s.at_most_3_inline s.records_hold_1_to_60 }
 
-kept_fits : (r : List ℕ) (rs : List (List ℕ)) → length r ≤ 60 → All RecordFits rs → All RecordFits (kept r rs)
+kept_fits : (r : List ℕ) (rs : List (List ℕ)) → length r ≤ 60 → AllByRecursion RecordFits rs → AllByRecursion RecordFits (kept r rs)
 kept_fits [] rs h a = a
 kept_fits (p ∷ ps) rs h a = ((omega arith, h), a)
 
-without_fits : (n : ℕ) (rs : List (List ℕ)) → All RecordFits rs → All RecordFits (without_in n rs)
+without_fits : (n : ℕ) (rs : List (List ℕ)) → AllByRecursion RecordFits rs → AllByRecursion RecordFits (without_in n rs)
 without_fits n [] a = tt
 without_fits n (r ∷ rs) a = go (has n r) (without_fits n rs a.1)
   where
-    go : (b : Bool) → All RecordFits (without_in n rs) → All RecordFits (cond b (kept (without n r) rs) (r ∷ without_in n rs))
+    go : (b : Bool) → AllByRecursion RecordFits (without_in n rs) → AllByRecursion RecordFits (cond b (kept (without n r) rs) (r ∷ without_in n rs))
     go true ih = kept_fits (without n r) rs (omega (arith, length_without_le n r, a.0)) a.1
     go false ih = (a.0, ih)
 
@@ -135,7 +135,7 @@ none_sizes : Sizes paged.none
 none_sizes = record { at_most_3_inline = omega arith; records_hold_1_to_60 = tt }
 
 -- an entry within the sizes is empty exactly if it has no posting
-empty_is_none : (inline : List ℕ) (records : List (List ℕ)) → All RecordFits records → no_postings (inline ++ chained records) ≡ (no_postings inline && no_records records)
+empty_is_none : (inline : List ℕ) (records : List (List ℕ)) → AllByRecursion RecordFits records → no_postings (inline ++ chained records) ≡ (no_postings inline && no_records records)
 empty_is_none [] [] a = refl
 empty_is_none [] ([] ∷ rs) a = absurd (omega (arith, a.0))
 empty_is_none [] ((p ∷ ps) ∷ rs) a = refl
@@ -165,7 +165,7 @@ module _ (kind : Kind) (key : Field) (f : Entry → Entry) (g : List ℕ → Lis
       go true = refl
       go false = refl
 
-  changed_spelled : (entries : Entries) → All (λ (h : Held Entry). Sizes h.value) entries → book_of (changed kind paged key f entries) ≡ changed kind plain key g (book_of entries)
+  changed_spelled : (entries : Entries) → AllByRecursion (λ (h : Held Entry). Sizes h.value) entries → book_of (changed kind paged key f entries) ≡ changed kind plain key g (book_of entries)
   changed_spelled [] a = put_spelled paged.none [] none_sizes
   changed_spelled (h ∷ rest) a = go (kind.order key h.key) (changed_spelled rest a.1)
     where
@@ -176,7 +176,7 @@ module _ (kind : Kind) (key : Field) (f : Entry → Entry) (g : List ℕ → Lis
       go Equal ih = put_spelled h.value rest a.0
       go Greater ih = ap (λ (b : Book). record { key = h.key; value = postings_in h.value } ∷ b) ih
 
-all_sizes : (entries : Entries) → EntriesFit entries → All (λ (h : Held Entry). Sizes h.value) entries
+all_sizes : (entries : Entries) → EntriesFit entries → AllByRecursion (λ (h : Held Entry). Sizes h.value) entries
 all_sizes entries a = all_weaken EntryFits Sizes (λ entry f. f.sizes) entries a
 
 line_spelled : (kind : Kind) (b : Booking) (entries : Entries) → EntriesFit entries → book_of (line_taken kind paged b entries) ≡ line_taken kind plain b (book_of entries)
@@ -191,7 +191,7 @@ line_fitting kind b entries lb s a =
     a
 
 abbrev LawfulKeys : Kind → List Booking → Type 0
-LawfulKeys kind bs = All (λ (b : Booking). kind.lawful b.key ≡ true) bs
+LawfulKeys kind bs = AllByRecursion (λ (b : Booking). kind.lawful b.key ≡ true) bs
 
 lines_spelled : (kind : Kind) (at : ℕ) (bs : List Booking) (entries : Entries) → LawfulKeys kind bs → Sorted kind entries → EntriesFit entries → spelled (take_lines kind paged at bs entries) ≡ take_lines kind plain at bs (book_of entries)
 lines_spelled kind at [] entries l s a = refl

@@ -1,7 +1,7 @@
 -- The plain book follows its lines, and stays a book.
 use Rattle.std.proofs.Common.{◌≡◌, ℕ, suc, ◌+◌, ◌<◌, ◌≤◌, Bool, true, false, cond, not, ◌&&◌, ◌⊎◌, List, [], ◌∷◌, ◌++◌, map, length, Some, None, Option, sym, refl, ap, ◌∙◌, subst, inl, inr, arith}
 use Rattle.std.specs.Ordering.{is_eq}
-use Rattle.std.specs.List.{AllByRecursion as All}
+use Rattle.std.specs.List.{AllByRecursion}
 use Rattle.std.proofs.lemmas.Bool.{cases_eq, true≢false}
 use Rattle.refusals.specs.Refusals.{Answer, Accepted, Refused}
 use Rattle.keys.specs.Kinds.{Kind, Field}
@@ -27,7 +27,7 @@ plain_follows = record {
 }
 
 -- what holds of the empty list and of every key's holds of any key's
-pub value_all : {V : Type 0} (kind : Kind) (keeping : Keeping V) (P : V → Type 0) (key : Field) (list : List (Held V)) → P keeping.none → All (λ (h : Held V). P h.value) list → P (value_at kind keeping key list)
+pub value_all : {V : Type 0} (kind : Kind) (keeping : Keeping V) (P : V → Type 0) (key : Field) (list : List (Held V)) → P keeping.none → AllByRecursion (λ (h : Held V). P h.value) list → P (value_at kind keeping key list)
 value_all kind keeping P key [] z a = z
 value_all kind keeping P key (h ∷ rest) z a = go (is_eq (kind.order key h.key)) (value_all kind keeping P key rest z a.1)
   where
@@ -37,9 +37,9 @@ value_all kind keeping P key (h ∷ rest) z a = go (is_eq (kind.order key h.key)
 
 -- a list of postings, or none
 abbrev pub PostingsOrNone : List ℕ → Type 0
-PostingsOrNone ps = ((n : ℕ) → count n ps ≤ 1) × All PostingNumber ps
+PostingsOrNone ps = ((n : ℕ) → count n ps ≤ 1) × AllByRecursion PostingNumber ps
 
-pub all_weaken : {V : Type 0} (P Q : V → Type 0) → ((v : V) → P v → Q v) → (list : List (Held V)) → All (λ (h : Held V). P h.value) list → All (λ (h : Held V). Q h.value) list
+pub all_weaken : {V : Type 0} (P Q : V → Type 0) → ((v : V) → P v → Q v) → (list : List (Held V)) → AllByRecursion (λ (h : Held V). P h.value) list → AllByRecursion (λ (h : Held V). Q h.value) list
 all_weaken P Q f [] a = tt
 all_weaken P Q f (h ∷ rest) a = (f h.value a.0, all_weaken P Q f rest a.1)
 
@@ -76,7 +76,7 @@ line_book kind at b book s i e = record {
       i.keys_hold_postings;
 }
 
-pub lines_book : (kind : Kind) (at : ℕ) (bs : List Booking) (book after : Book) → All (Sound kind) bs → IsBook kind book → take_lines kind plain at bs book ≡ Accepted after → IsBook kind after
+pub lines_book : (kind : Kind) (at : ℕ) (bs : List Booking) (book after : Book) → AllByRecursion (Sound kind) bs → IsBook kind book → take_lines kind plain at bs book ≡ Accepted after → IsBook kind after
 lines_book kind at [] book after s i e = let same : book ≡ after = cc in subst (IsBook kind) same i
 lines_book kind at (b ∷ bs) book after s i e =
     let step = then_accepted (line_answer kind plain at b book) (take_lines kind plain (suc at) bs (line_taken kind plain b book)) after e in

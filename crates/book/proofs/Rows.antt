@@ -2,7 +2,7 @@
 use Rattle.std.proofs.Common.{◌≡◌, ℕ, suc, ◌+◌, ◌<◌, ◌≤◌, Bool, true, false, cond, not, ◌&&◌, List, [], ◌∷◌, ◌++◌, map, reverse, length, Some, None, Option, Ordering, Less, Equal, Greater, sym, refl, ap, ◌∙◌, subst, arith}
 use mathlib.Core.List.{reverse_aux}
 use Rattle.std.specs.Ordering.{is_eq, is_lt}
-use Rattle.std.specs.List.{AllByRecursion as All}
+use Rattle.std.specs.List.{AllByRecursion}
 use Rattle.std.proofs.ByRecursion.{All-push, All-weaker}
 use Rattle.std.proofs.lemmas.List.{append_assoc, append-nil, length-map}
 use Rattle.refusals.specs.Refusals.{Answer, Accepted, Refused, wants, and_then}
@@ -59,7 +59,7 @@ module _ {V : Type 0} (kind : Kind) (keeping : Keeping V) (clear : (v : V) → k
           ∙ go ls (λ (v : V). applied keeping l.sign l.number (f v))
 
   -- a key above all others goes to the end
-  changed_end : (key : Field) (f : V → V) (list : List (Held V)) → kind.lawful key ≡ true → All (λ (h : Held V). (kind.lawful h.key ≡ true) × (below kind h.key key ≡ true)) list
+  changed_end : (key : Field) (f : V → V) (list : List (Held V)) → kind.lawful key ≡ true → AllByRecursion (λ (h : Held V). (kind.lawful h.key ≡ true) × (below kind h.key key ≡ true)) list
       → changed kind keeping key f list ≡ list ++ put keeping key (f keeping.none) []
   changed_end key f [] lk a = refl
   changed_end key f (h ∷ rest) lk a = rw (greater_from_below kind key h.key lk a.0.0 a.0.1) (ap (λ (l : List (Held V)). h ∷ l) (changed_end key f rest lk a.1))
@@ -83,20 +83,20 @@ empty_answers kind at (b ∷ bs) = go b.sign (empty_answers kind (suc at) bs)
 abbrev Posts : Booking → Type 0
 Posts b = b.sign ≡ Posting
 
-all_post : (at : ℕ) (bs : List Booking) → no_cancelling at bs ≡ Accepted tt → All Posts bs
+all_post : (at : ℕ) (bs : List Booking) → no_cancelling at bs ≡ Accepted tt → AllByRecursion Posts bs
 all_post at [] e = tt
 all_post at (b ∷ bs) e = go b.sign refl e (λ g. all_post (suc at) bs g)
   where
-    go : (sign : Sign) → b.sign ≡ sign → and_then (wants (is_posting sign) 7 at) (no_cancelling (suc at) bs) ≡ Accepted tt → (no_cancelling (suc at) bs ≡ Accepted tt → All Posts bs) → All Posts (b ∷ bs)
+    go : (sign : Sign) → b.sign ≡ sign → and_then (wants (is_posting sign) 7 at) (no_cancelling (suc at) bs) ≡ Accepted tt → (no_cancelling (suc at) bs ≡ Accepted tt → AllByRecursion Posts bs) → AllByRecursion Posts (b ∷ bs)
     go Posting s e ih = (s, ih e)
     go Cancelling s e ih = let z : ◌≡◌ {A = ℕ} 0 1 = cc in absurd (omega arith)
 
-all_split : {X : Type 0} (P : X → Type 0) (xs ys : List X) → All P (xs ++ ys) → All P xs × All P ys
+all_split : {X : Type 0} (P : X → Type 0) (xs ys : List X) → AllByRecursion P (xs ++ ys) → AllByRecursion P xs × AllByRecursion P ys
 all_split P [] ys a = (tt, a)
 all_split P (x ∷ xs) ys a = let rest = all_split P xs ys a.1 in ((a.0, rest.0), rest.1)
 
 -- postings one after another, each in front
-posted_reversed : (key : Field) (lines : List Line) (ps : List ℕ) → All Posts (bookings_of (record { key = key; lines = lines })) → all_applied plain lines ps ≡ reverse_aux (map (λ (line : Line). line.number) lines) ps
+posted_reversed : (key : Field) (lines : List Line) (ps : List ℕ) → AllByRecursion Posts (bookings_of (record { key = key; lines = lines })) → all_applied plain lines ps ≡ reverse_aux (map (λ (line : Line). line.number) lines) ps
 posted_reversed key [] ps a = refl
 posted_reversed key (line ∷ lines) ps a = rw a.0 (posted_reversed key lines (line.number ∷ ps) a.1)
 
@@ -113,8 +113,8 @@ abbrev Below : Kind → Field → Held (List ℕ) → Type 0
 Below kind key h = (kind.lawful h.key ≡ true) × (below kind h.key key ≡ true)
 
 -- rows above all that is held are put behind it
-rows_appended : (kind : Kind) (before : Option Field) (rows : List Row) (list : Book) → KeysRise kind before rows → All (λ (row : Row). 0 < length row.lines) rows → All Posts (lines_under rows) → Sorted kind list
-    → ((c : Field) → kind.lawful c ≡ true → above kind before c ≡ true → All (Below kind c) list) → lines_taken kind plain (lines_under rows) list ≡ list ++ map as_held rows
+rows_appended : (kind : Kind) (before : Option Field) (rows : List Row) (list : Book) → KeysRise kind before rows → AllByRecursion (λ (row : Row). 0 < length row.lines) rows → AllByRecursion Posts (lines_under rows) → Sorted kind list
+    → ((c : Field) → kind.lawful c ≡ true → above kind before c ≡ true → AllByRecursion (Below kind c) list) → lines_taken kind plain (lines_under rows) list ≡ list ++ map as_held rows
 rows_appended kind before [] list k some posts s up = sym (append-nil list)
 rows_appended kind before (row ∷ rows) list k some posts s up =
     taken-++ kind plain (bookings_of row) (lines_under rows) list ∙ ap (lines_taken kind plain (lines_under rows)) now
@@ -122,7 +122,7 @@ rows_appended kind before (row ∷ rows) list k some posts s up =
     (λ c lc h. All-push (Below kind c) list (as_held row) (All-weaker (Below kind row.key) (Below kind c) (λ x g. (g.0, below_transitive kind x.key row.key c g.0 k.0 lc g.1 h)) list (up row.key k.0 k.1)) (k.0, h))
     ∙ append_assoc list (as_held row ∷ []) (map as_held rows))
   where
-    split : All Posts (bookings_of row) × All Posts (lines_under rows)
+    split : AllByRecursion Posts (bookings_of row) × AllByRecursion Posts (lines_under rows)
     split = all_split Posts (bookings_of row) (lines_under rows) posts
 
     one : lines_taken kind plain (bookings_of row) list ≡ changed kind plain row.key (all_applied plain row.lines) list

@@ -1,7 +1,7 @@
 -- What lines do, over any way of keeping postings whose postings follow the signs.
 use Rattle.std.proofs.Common.{◌≡◌, ℕ, suc, ◌+◌, ◌<◌, ◌≤◌, Bool, true, false, cond, not, ◌&&◌, eqb, leb, List, [], ◌∷◌, ◌++◌, map, Some, None, Option, sym, refl, ap, ◌∙◌, subst, arith}
 use Rattle.std.specs.Ordering.{is_eq}
-use Rattle.std.specs.List.{AllByRecursion as All}
+use Rattle.std.specs.List.{AllByRecursion}
 use Rattle.std.proofs.lemmas.Bool.{true≢false, leb-true, leb-false, le-leb, lt-leb}
 use Rattle.refusals.specs.Refusals.{Answer, Accepted, Refused, and_then}
 use Rattle.keys.specs.Kinds.{Kind, Field}
@@ -60,7 +60,7 @@ module _ {V : Type 0} (kind : Kind) (keeping : Keeping V) (follows : Follows kee
   pub line_sorted : (b : Booking) (list : List (Held V)) → kind.lawful b.key ≡ true → Sorted kind list → Sorted kind (line_taken kind keeping b list)
   line_sorted b list lb s = changed_sorted kind keeping follows.clear None b.key (applied keeping b.sign b.number) list tt lb refl s
 
-  pub lines_sorted : (bs : List Booking) (list : List (Held V)) → All (Sound kind) bs → Sorted kind list → Sorted kind (lines_taken kind keeping bs list)
+  pub lines_sorted : (bs : List Booking) (list : List (Held V)) → AllByRecursion (Sound kind) bs → Sorted kind list → Sorted kind (lines_taken kind keeping bs list)
   lines_sorted [] list a s = s
   lines_sorted (b ∷ bs) list a s = lines_sorted bs (line_taken kind keeping b list) a.1 (line_sorted b list a.0.0 s)
 
@@ -86,7 +86,7 @@ module _ {V : Type 0} (kind : Kind) (keeping : Keeping V) (follows : Follows kee
           let apart : key ≡ b.key → ⊥ = λ g. true≢false (sym (equal_key kind key b.key lk g) ∙ t) in
           rw (changed_elsewhere kind keeping follows.clear None b.key key f list lb lk apart s) (omega (arith, none_if b.sign))
 
-  pub lines_counts : (at : ℕ) (bs : List Booking) (list after : List (Held V)) (key : Field) (n : ℕ) → kind.lawful key ≡ true → All (Sound kind) bs → Sorted kind list → take_lines kind keeping at bs list ≡ Accepted after
+  pub lines_counts : (at : ℕ) (bs : List Booking) (list after : List (Held V)) (key : Field) (n : ℕ) → kind.lawful key ≡ true → AllByRecursion (Sound kind) bs → Sorted kind list → take_lines kind keeping at bs list ≡ Accepted after
       → held after key n + cancels_of kind key n bs ≡ held list key n + posts_of kind key n bs
   lines_counts at [] list after key n lk a s e = let same : after ≡ list = cc in rw same (omega arith)
   lines_counts at (b ∷ bs) list after key n lk a s e =
@@ -114,7 +114,7 @@ module _ {V : Type 0} (kind : Kind) (keeping : Keeping V) (follows : Follows kee
       same : held (line_taken kind keeping b list) c.key c.number ≡ held list c.key c.number
       same = omega (arith, line_counts here b list c.key c.number lc lb s e, counts_share b.sign (names kind c.key c.number b), ap tally unnamed)
 
-  answers_same : (at : ℕ) (bs : List Booking) (b : Booking) (list : List (Held V)) (here : ℕ) → kind.lawful b.key ≡ true → All (Other b) bs → Once kind bs → Sorted kind list → line_answer kind keeping here b list ≡ Accepted tt
+  answers_same : (at : ℕ) (bs : List Booking) (b : Booking) (list : List (Held V)) (here : ℕ) → kind.lawful b.key ≡ true → AllByRecursion (Other b) bs → Once kind bs → Sorted kind list → line_answer kind keeping here b list ≡ Accepted tt
       → lines_answer kind keeping at bs (line_taken kind keeping b list) ≡ lines_answer kind keeping at bs list
   answers_same at [] b list here lb a o s e = refl
   answers_same at (c ∷ bs) b list here lb a o s e =
@@ -137,29 +137,29 @@ module _ {V : Type 0} (kind : Kind) (keeping : Keeping V) (follows : Follows kee
   abbrev pub Fits : List (Held V) → Booking → Type 0
   Fits list b = has b.number (keeping.postings (value_at kind keeping b.key list)) ≡ not (is_posting b.sign)
 
-  pub lines_fit : (at : ℕ) (bs : List Booking) (list : List (Held V)) → lines_answer kind keeping at bs list ≡ Accepted tt → All (Fits list) bs
+  pub lines_fit : (at : ℕ) (bs : List Booking) (list : List (Held V)) → lines_answer kind keeping at bs list ≡ Accepted tt → AllByRecursion (Fits list) bs
   lines_fit at [] list e = tt
   lines_fit at (b ∷ bs) list e =
       let step = then_accepted (line_answer kind keeping at b list) (lines_answer kind keeping (suc at) bs list) tt e in
       (stands b.sign (has b.number (keeping.postings (value_at kind keeping b.key list))) at step.0, lines_fit (suc at) bs list step.1)
 
-  pub fit_lines : (at : ℕ) (bs : List Booking) (list : List (Held V)) → All (Fits list) bs → lines_answer kind keeping at bs list ≡ Accepted tt
+  pub fit_lines : (at : ℕ) (bs : List Booking) (list : List (Held V)) → AllByRecursion (Fits list) bs → lines_answer kind keeping at bs list ≡ Accepted tt
   fit_lines at [] list a = refl
   fit_lines at (b ∷ bs) list a = rw (ap (λ (t : Bool). standing b.sign t at) a.0 ∙ stood b.sign at) (fit_lines (suc at) bs list a.1)
 
   -- a batch's lines accepted in turn fit what was held before
-  pub taken_fit : (at : ℕ) (bs : List Booking) (list after : List (Held V)) → Once kind bs → Sorted kind list → take_lines kind keeping at bs list ≡ Accepted after → All (Fits list) bs
+  pub taken_fit : (at : ℕ) (bs : List Booking) (list after : List (Held V)) → Once kind bs → Sorted kind list → take_lines kind keeping at bs list ≡ Accepted after → AllByRecursion (Fits list) bs
   taken_fit at bs list after o s e =
       lines_fit at bs list (then_accepted (lines_answer kind keeping at bs list) (Accepted (lines_taken kind keeping bs list)) after (sym (in_sequence at bs list o s) ∙ e)).0
 
-  pub fit_taken : (at : ℕ) (bs : List Booking) (list : List (Held V)) → Once kind bs → Sorted kind list → All (Fits list) bs → take_lines kind keeping at bs list ≡ Accepted (lines_taken kind keeping bs list)
+  pub fit_taken : (at : ℕ) (bs : List Booking) (list : List (Held V)) → Once kind bs → Sorted kind list → AllByRecursion (Fits list) bs → take_lines kind keeping at bs list ≡ Accepted (lines_taken kind keeping bs list)
   fit_taken at bs list o s a = in_sequence at bs list o s ∙ ap (λ (x : Answer Unit). and_then x (Accepted (lines_taken kind keeping bs list))) (fit_lines at bs list a)
 
   -- the reversed lines fit what the lines left
-  reversed_fit : (bs : List Booking) (list after : List (Held V)) → Once kind bs → All (Sound kind) bs
+  reversed_fit : (bs : List Booking) (list after : List (Held V)) → Once kind bs → AllByRecursion (Sound kind) bs
       → ((key : Field) (n : ℕ) → kind.lawful key ≡ true → held list key n ≤ 1)
       → ((key : Field) (n : ℕ) → kind.lawful key ≡ true → held after key n + cancels_of kind key n bs ≡ held list key n + posts_of kind key n bs)
-      → (zs : List Booking) → ((key : Field) (n : ℕ) → (posts_of kind key n zs ≤ posts_of kind key n bs) × (cancels_of kind key n zs ≤ cancels_of kind key n bs)) → All (Sound kind) zs → All (Fits list) zs → All (Fits after) (map reversed_booking zs)
+      → (zs : List Booking) → ((key : Field) (n : ℕ) → (posts_of kind key n zs ≤ posts_of kind key n bs) × (cancels_of kind key n zs ≤ cancels_of kind key n bs)) → AllByRecursion (Sound kind) zs → AllByRecursion (Fits list) zs → AllByRecursion (Fits after) (map reversed_booking zs)
   reversed_fit bs list after o sound most balance [] part a f = tt
   reversed_fit bs list after o sound most balance (z ∷ zs) part a f = (
     turned_fits z.sign (held list z.key z.number) (held after z.key z.number) (posts_of kind z.key z.number bs) (cancels_of kind z.key z.number bs) f.0
@@ -174,7 +174,7 @@ module _ {V : Type 0} (kind : Kind) (keeping : Keeping V) (follows : Follows kee
       own' : cancels_of kind z.key z.number (z ∷ zs) ≤ cancels_of kind z.key z.number bs → names kind z.key z.number z ≡ true → tally (not (is_posting z.sign) && true) ≤ cancels_of kind z.key z.number bs
       own' h e = omega (arith, ap (λ (t : Bool). tally (not (is_posting z.sign) && t)) e)
 
-  pub reversal_fits : (bs : List Booking) (list after : List (Held V)) → Once kind bs → All (Sound kind) bs → Sorted kind list
-      → ((key : Field) (n : ℕ) → kind.lawful key ≡ true → held list key n ≤ 1) → take_lines kind keeping 0 bs list ≡ Accepted after → All (Fits after) (map reversed_booking bs)
+  pub reversal_fits : (bs : List Booking) (list after : List (Held V)) → Once kind bs → AllByRecursion (Sound kind) bs → Sorted kind list
+      → ((key : Field) (n : ℕ) → kind.lawful key ≡ true → held list key n ≤ 1) → take_lines kind keeping 0 bs list ≡ Accepted after → AllByRecursion (Fits after) (map reversed_booking bs)
   reversal_fits bs list after o sound s most e =
       reversed_fit bs list after o sound most (λ key n lk. lines_counts 0 bs list after key n lk sound s e) bs (λ key n. omega arith) sound (taken_fit 0 bs list after o s e)

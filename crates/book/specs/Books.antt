@@ -4,7 +4,7 @@ use Rattle.std.specs.Prelude.{◌≡◌, ℕ, ◌+◌, ◌^◌, ◌<◌, ◌≤�
 use Rattle.std.specs.declared.cmp.Ordering.TheVariants.{Less, Equal, Greater}
 use Rattle.std.specs.declared.cmp.Ordering.{Ordering}
 use Rattle.std.specs.Ordering.{is_eq}
-use Rattle.std.specs.List.{AllByRecursion as All}
+use Rattle.std.specs.List.{AllByRecursion}
 use Rattle.keys.specs.Kinds.{Kind, Field}
 use Rattle.batches.specs.KeyCheck.{above}
 
@@ -89,8 +89,8 @@ PostingNumber n = (1 ≤ n) × (n < 2 ^ 63)
 pub record Postings (ps : List ℕ) : Type 0 where
   pub at_least_one : 1 ≤ length ps
   pub none_twice : (n : ℕ) → count n ps ≤ 1
-  pub are_posting_numbers : All PostingNumber ps
+  pub are_posting_numbers : AllByRecursion PostingNumber ps
 
 pub record IsBook (kind : Kind) (book : Book) : Type 0 where
   pub keys_rise : Sorted kind book
-  pub keys_hold_postings : All (λ (held : Held (List ℕ)). Postings held.value) book
+  pub keys_hold_postings : AllByRecursion (λ (held : Held (List ℕ)). Postings held.value) book

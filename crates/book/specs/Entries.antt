@@ -1,6 +1,6 @@
 -- The entry of a key as pages hold it: up to three inline postings, the newest, then a chain of records.
 use Rattle.std.specs.Prelude.{◌≡◌, ℕ, ◌≤◌, Bool, true, false, cond, ◌&&◌, List, [], ◌∷◌, ◌++◌, map, length, nat_le, nat_lt}
-use Rattle.std.specs.List.{flat_map, AllByRecursion as All}
+use Rattle.std.specs.List.{flat_map, AllByRecursion}
 use Rattle.keys.specs.Kinds.{Kind}
 use Rattle.book.specs.Books.{Held, Keeping, Book, has, without, no_postings, Sorted}
 
@@ -58,11 +58,11 @@ book_of entries = map (λ (held : Held Entry). record { key = held.key; value = 
 -- an entry within the sizes: at most three inline, each record of 1 to 60
 pub record Sizes (entry : Entry) : Type 0 where
   pub at_most_3_inline : length entry.inline ≤ 3
-  pub records_hold_1_to_60 : All (λ (r : List ℕ). (1 ≤ length r) × (length r ≤ 60)) entry.records
+  pub records_hold_1_to_60 : AllByRecursion (λ (r : List ℕ). (1 ≤ length r) × (length r ≤ 60)) entry.records
 
 pub record EntryFits (entry : Entry) : Type 0 where
   pub sizes : Sizes entry
   pub at_least_one : 1 ≤ length (postings_in entry)
 
 abbrev pub EntriesFit : Entries → Type 0
-EntriesFit entries = All (λ (held : Held Entry). EntryFits held.value) entries
+EntriesFit entries = AllByRecursion (λ (held : Held Entry). EntryFits held.value) entries

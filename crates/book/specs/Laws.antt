@@ -1,6 +1,6 @@
 -- The laws of merging, over every kind, book and batch.
 use Rattle.std.specs.Prelude.{◌≡◌, ℕ, suc, ◌+◌, ◌<◌, ◌≤◌, Bool, true, false, cond, List, [], ◌∷◌, ◌++◌, map, reverse, length}
-use Rattle.std.specs.List.{AllByRecursion as All}
+use Rattle.std.specs.List.{AllByRecursion}
 use Rattle.refusals.specs.Refusals.{Answer, Accepted, Refused, wants, and_then, on_accepted}
 use Rattle.keys.specs.Kinds.{Kind, Field}
 use Rattle.batches.specs.declared.line.Line.{Line}
@@ -112,6 +112,6 @@ as_held row = record { key = row.key; value = reverse (map (λ (line : Line). li
 -- On the empty book a batch is refused at its first cancelling line; else the book is its rows.
 abbrev pub MergedIntoTheEmptyBook : Type 0
 MergedIntoTheEmptyBook =
-    (kind : Kind) (free code : ℕ) (rows : List Row) → RowsRise rows → All (λ (row : Row). 0 < length row.lines) rows
+    (kind : Kind) (free code : ℕ) (rows : List Row) → RowsRise rows → AllByRecursion (λ (row : Row). 0 < length row.lines) rows
     → merge_answer kind plain free code rows []
     ≡ and_then (kind_and_keys_answer kind code rows) (and_then (no_cancelling 0 (lines_under rows)) (and_then (pages_answer free (posting_lines (lines_under rows))) (Accepted (map as_held rows))))

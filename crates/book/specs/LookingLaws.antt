@@ -1,7 +1,7 @@
 -- The laws of lookups and listings.
 use Rattle.std.specs.Prelude.{◌≡◌, ℕ, ◌-◌, ◌/◌, min, Bool, true, false, cond, List, [], ◌∷◌, map, length, filter}
 use Rattle.std.specs.Ordering.{is_eq}
-use Rattle.std.specs.List.{AllByRecursion as All}
+use Rattle.std.specs.List.{AllByRecursion}
 use Rattle.keys.specs.Kinds.{Kind, Field, below}
 use Rattle.book.specs.Books.{Book, postings_of, Sorted}
 use Rattle.book.specs.Looking.{shown, list_after_lookup, Listed, within, listed, rows_shown, buffer_after_list}
@@ -29,7 +29,7 @@ numbers_under kind key rows = map (λ (row : Listed). row.posting) (filter (λ (
 -- no row's key lies below that of a row before it
 abbrev pub InKeyOrder : Kind → List Listed → Type 0
 InKeyOrder kind [] = Unit {0}
-InKeyOrder kind (row ∷ rows) = All (λ (later : Listed). below kind later.key row.key ≡ false) rows × InKeyOrder kind rows
+InKeyOrder kind (row ∷ rows) = AllByRecursion (λ (later : Listed). below kind later.key row.key ≡ false) rows × InKeyOrder kind rows
 
 -- A listing has, in key order, exactly the postings of each key from the first to the second, as in the book.
 pub record ListingShows (kind : Kind) (book : Book) (first second : Field) : Type 0 where

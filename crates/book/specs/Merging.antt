@@ -1,7 +1,7 @@
 -- Merging a batch: what each line does, when it is refused, and the order of the refusals.
 use Rattle.std.specs.Prelude.{◌≡◌, ℕ, suc, ◌+◌, ◌*◌, Bool, true, false, cond, not, ◌&&◌, List, [], ◌∷◌, ◌++◌, map, ◌==◌, nat_le}
 use Rattle.std.specs.Ordering.{is_eq}
-use Rattle.std.specs.List.{flat_map, AllByRecursion as All}
+use Rattle.std.specs.List.{flat_map, AllByRecursion}
 use Rattle.refusals.specs.Refusals.{Answer, Accepted, Refused, wants, and_then}
 use Rattle.keys.specs.Kinds.{Kind, Field}
 use Rattle.batches.specs.declared.line.Sign.{Sign}
@@ -106,4 +106,4 @@ left (Refused number place) before = before
 
 -- numbers rise within each row
 abbrev pub RowsRise : List Row → Type 0
-RowsRise rows = All (λ (row : Row). Rising 0 row.lines) rows
+RowsRise rows = AllByRecursion (λ (row : Row). Rising 0 row.lines) rows

@@ -1,7 +1,7 @@
 -- The text of a batch of postings: it is that of its book, and 364 bytes hold it. Assumes nothing.
 use Rattle.std.proofs.Common.{◌≡◌, ℕ, zero, suc, ◌+◌, ◌-◌, ◌*◌, ◌^◌, ◌<◌, ◌≤◌, List, [], ◌∷◌, ◌++◌, map, reverse, length, get_or, take, drop, decimal, sym, refl, ap, ◌∙◌, subst, mul-suc, mul-add, arith, lit<, lit≤}
 use mathlib.Core.List.{reverse_aux}
-use Rattle.std.specs.List.{flat_map, AllByRecursion as All}
+use Rattle.std.specs.List.{flat_map, AllByRecursion}
 use Rattle.std.proofs.lemmas.Fmt.{decimal_digit, length-decimal-le}
 use Rattle.std.proofs.lemmas.List.{append_assoc, length-append, length-map, length-reverse, get_or-reverse, get_or-map, get_or_append_left, get_or-append-add, get_or_past, take_all}
 use Rattle.refusals.specs.Refusals.{Answer, Accepted}
@@ -93,16 +93,16 @@ short_line key n long small =
     let figures : length (decimal n) ≤ 19 = length-decimal-le 19 n (lit< tt) (omega arith) (omega arith) in
     omega (arith, until_short key, length-append (until_zero key) (32 ∷ (decimal n ++ (10 ∷ []))), length-append (decimal n) (10 ∷ []))
 
-short_rows : (key : List ℕ) (ns : List ℕ) → length key ≡ 24 → All (λ (n : ℕ). n < 2 ^ 63) ns → length (flat_map row_text (map (λ (n : ℕ). record { key = key; posting = n }) ns)) ≤ 45 * length ns
+short_rows : (key : List ℕ) (ns : List ℕ) → length key ≡ 24 → AllByRecursion (λ (n : ℕ). n < 2 ^ 63) ns → length (flat_map row_text (map (λ (n : ℕ). record { key = key; posting = n }) ns)) ≤ 45 * length ns
 short_rows key [] long small = omega arith
 short_rows key (n ∷ ns) long small =
     omega (arith, short_line key n long small.0, short_rows key ns long small.1, length-append (text_line (until_zero key) n) (flat_map row_text (map (λ (m : ℕ). record { key = key; posting = m }) ns)), mul-suc 45 (length ns))
 
-all_reverse : (P : ℕ → Type 0) (xs ys : List ℕ) → All P xs → All P ys → All P (reverse_aux xs ys)
+all_reverse : (P : ℕ → Type 0) (xs ys : List ℕ) → AllByRecursion P xs → AllByRecursion P ys → AllByRecursion P (reverse_aux xs ys)
 all_reverse P [] ys a b = b
 all_reverse P (x ∷ xs) ys a b = all_reverse P xs (x ∷ ys) a.1 (a.0, b)
 
-all_small : (low : ℕ) (lines : List Line) → Rising low lines → All (λ (n : ℕ). n < 2 ^ 63) (map number_of_line lines)
+all_small : (low : ℕ) (lines : List Line) → Rising low lines → AllByRecursion (λ (n : ℕ). n < 2 ^ 63) (map number_of_line lines)
 all_small low [] r = tt
 all_small low (line ∷ lines) r = (r.1, all_small line.number lines r.2)
 
@@ -114,7 +114,7 @@ short_postings row fits =
     let long : length (reverse numbers) ≡ length row.lines = length-reverse numbers ∙ length-map row.lines number_of_line in
     subst (λ (n : ℕ). length (flat_map row_text (rows_under (as_held row))) ≤ 45 * n) long (short_rows row.key (reverse numbers) fits.key_is_24_bytes all)
 
-short_batch : (rows : List Row) → All RowFits rows → length (flat_map postings_text rows) ≤ 45 * length (lines_of rows)
+short_batch : (rows : List Row) → AllByRecursion RowFits rows → length (flat_map postings_text rows) ≤ 45 * length (lines_of rows)
 short_batch [] fits = omega arith
 short_batch (row ∷ rows) fits =
     omega (arith, short_postings row fits.0, short_batch rows fits.1, length-append (postings_text row) (flat_map postings_text rows), length-append row.lines (lines_of rows), mul-add 45 (length row.lines) (length (lines_of rows)))
@@ -125,7 +125,7 @@ short_first n h =
     let one = ap length (decimal_digit n h) in
     omega (arith, length-append (decimal 0) (32 ∷ (decimal n ++ (10 ∷ []))), length-append (decimal n) (10 ∷ []))
 
-pub fits_364 : (rows : List Row) → All RowFits rows → length (lines_of rows) ≤ 8 → length (batch_text rows) ≤ 364
+pub fits_364 : (rows : List Row) → AllByRecursion RowFits rows → length (lines_of rows) ≤ 8 → length (batch_text rows) ≤ 364
 unfolding batch_text
 fits_364 rows fits few =
     omega (arith, short_first (length (lines_of rows)) (omega arith), short_batch rows fits, length-append (text_line (decimal 0) (length (lines_of rows))) (flat_map postings_text rows))

@@ -1,6 +1,6 @@
 -- The reversal of bytes that open, opened and read again: whatever numbers stand for the bytes. Assumes nothing.
 use Rattle.std.proofs.Common.{◌≡◌, ℕ, zero, suc, ◌+◌, ◌*◌, ◌^◌, ◌<◌, ◌≤◌, Bool, true, false, cond, ◌&&◌, ◌||◌, eqb, ltb, List, [], ◌∷◌, ◌++◌, map, length, get_or, take, drop, sym, refl, ap, ◌∙◌, mul-suc, arith}
-use Rattle.std.specs.List.{flat_map, AllByRecursion as All}
+use Rattle.std.specs.List.{flat_map, AllByRecursion}
 use Rattle.std.proofs.ByRecursion.{All-take, All-drop}
 use Rattle.std.proofs.lemmas.List.{length-append, length-take-le, length-drop, take-append-drop, take-append-le, drop-append-le, get_or_append_left, take_at, drop_at, take-map, drop-map}
 use Rattle.refusals.specs.Refusals.{Accepted}
@@ -79,7 +79,7 @@ rows_turned (content ∷ contents) cells all =
 abbrev Nine : List ℕ → Type 0
 Nine piece = length piece ≡ 9
 
-all_nine : (count : ℕ) (bytes : List ℕ) → 9 * count ≤ length bytes → All Nine (pieces 9 count bytes)
+all_nine : (count : ℕ) (bytes : List ℕ) → 9 * count ≤ length bytes → AllByRecursion Nine (pieces 9 count bytes)
 all_nine zero bytes e = tt
 all_nine (suc count) bytes e =
     (length-take-le 9 bytes (omega (arith, mul-suc 9 count)), all_nine count (drop 9 bytes) (omega (arith, mul-suc 9 count, length-drop 9 bytes)))
@@ -93,13 +93,13 @@ unfolding number_at
 cell_turned [] e = absurd (omega arith)
 cell_turned (sign ∷ number) e = refl
 
-cells_turned : (ps : List (List ℕ)) → All Nine ps → map cell_of (pieces 9 (length ps) (flat_map turned ps)) ≡ map turned_cell (map cell_of ps)
+cells_turned : (ps : List (List ℕ)) → AllByRecursion Nine ps → map cell_of (pieces 9 (length ps) (flat_map turned ps)) ≡ map turned_cell (map cell_of ps)
 cells_turned [] all = refl
 cells_turned (p ∷ ps) all =
     let long : length (turned p) ≡ 9 = length_turned p ∙ all.0 in
     rw (take_at (turned p) (flat_map turned ps) 9 long, drop_at (turned p) (flat_map turned ps) 9 long, cell_turned p all.0, cells_turned ps all.1)
 
-length_joined : (ps : List (List ℕ)) → All Nine ps → length (flat_map turned ps) ≡ 9 * length ps
+length_joined : (ps : List (List ℕ)) → AllByRecursion Nine ps → length (flat_map turned ps) ≡ 9 * length ps
 length_joined [] all = refl
 length_joined (p ∷ ps) all =
     let here = all.0 in
@@ -168,7 +168,7 @@ module _ (bytes : List ℕ) (opened : open_answer bytes ≡ Accepted tt) where
   length_lines : length lines ≡ 9 * line_count bytes
   length_lines = omega (arith, length-drop (16 + 32 * row_count bytes) bytes, rows_length bytes opened)
 
-  each_nine : All Nine cut
+  each_nine : AllByRecursion Nine cut
   each_nine = all_nine (line_count bytes) lines (omega (arith, length_lines))
 
   count_cut : length cut ≡ line_count bytes

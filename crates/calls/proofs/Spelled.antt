@@ -1,6 +1,6 @@
 -- What the entries of a valid tree are: sorted, within the sizes, and spelling a book. Assumes nothing.
 use Rattle.std.proofs.Common.{◌≡◌, ℕ, ◌≤◌, List, [], ◌∷◌, ◌++◌, map, length, Some, None, Option, refl, ap, subst}
-use Rattle.std.specs.List.{flat_map, AllByRecursion as All}
+use Rattle.std.specs.List.{flat_map, AllByRecursion}
 use Rattle.std.proofs.ByRecursion.{All-weaker, All-map}
 use Rattle.keys.specs.Kinds.{Kind, Field}
 use Rattle.book.specs.Books.{Held, SortedFrom, Sorted, Postings, IsBook}
@@ -46,9 +46,9 @@ held_postings entry fits =
 
 -- what a valid tree holds
 module _ (kind : Kind) (pages : Pages) (entries : Entries) (valid : Valid kind pages entries) where
-  all_held : (P : Held Entry → Type 0) → ((entry : EntryAt) → EntryFits entry → P (held entry)) → All P entries
+  all_held : (P : Held Entry → Type 0) → ((entry : EntryAt) → EntryFits entry → P (held entry)) → AllByRecursion P entries
   all_held P each =
-      subst (λ (list : Entries). All P list) valid.holds_the_entries
+      subst (λ (list : Entries). AllByRecursion P list) valid.holds_the_entries
       (All-map P held (entries_of valid.levels valid.tree) (All-weaker EntryFits (λ (entry : EntryAt). P (held entry)) each (entries_of valid.levels valid.tree) valid.entries_fit))
 
   pub entries_sorted : Sorted kind entries

@@ -1,6 +1,6 @@
 -- What stands of an index for the batches that it has accepted since it was new.
 use Rattle.std.specs.Prelude.{◌≡◌, ℕ, ◌+◌, ◌≤◌, true, ◌⊎◌, List, [], ◌∷◌, map, length, take}
-use Rattle.std.specs.List.{AllByRecursion as All}
+use Rattle.std.specs.List.{AllByRecursion}
 use Rattle.refusals.specs.Refusals.{Answer, Accepted, Refused}
 use Rattle.page_store.specs.Meanings.{count_of}
 use Rattle.keys.specs.Kinds.{Kind, Field}
@@ -59,7 +59,7 @@ LastCanBeReversed kind (last ∷ earlier) state =
 pub record Standing (kind : Kind) (batches : AcceptedBatches) (state : State) : Type 0 where
   pub is_open : state.is_open ≡ true
   pub at_most_65536_pages : count_of state.meaning ≤ 65536
-  pub batches_have_opened : All (λ bytes. (opens bytes ≡ true) × (kind_code bytes ≡ kind.code)) batches
+  pub batches_have_opened : AllByRecursion (λ bytes. (opens bytes ≡ true) × (kind_code bytes ≡ kind.code)) batches
   pub batches_were_accepted_in_turn : AcceptedInTurn kind (history_of batches)
   pub accepted_lines_are_counted : (key : Field) → kind.lawful key ≡ true → (n : ℕ) → Counted kind (history_of batches) key n
   pub the_last_batch_can_be_reversed : LastCanBeReversed kind batches state

@@ -1,7 +1,7 @@
 -- Below is less in rank: what lies below a lower field lies below a higher one, and the lower field itself does so too.
 use Rattle.std.proofs.Common.{◌≡◌, ℕ, zero, suc, ◌<◌, ◌≤◌, Bool, true, false, cond, ◌&&◌, ltb, ◌⊎◌, List, [], ◌∷◌, ◌++◌, map, length, sym, ap, ◌∙◌, subst, inl, inr, ⊎_elim, arith}
 use Rattle.std.specs.Ordering.{is_lt}
-use Rattle.std.specs.List.{flat_map, AllByRecursion as All}
+use Rattle.std.specs.List.{flat_map, AllByRecursion}
 use Rattle.std.proofs.lemmas.Bool.{cases_eq, cases_Bool, and_parts, and_from, and_right, lt-ltb, le-ltb}
 use Rattle.keys.specs.Kinds.{Field, Kind, below}
 use Rattle.keys.specs.Ranks.{numbers_below, all_fields, counted, rank, RanksTell}
@@ -38,7 +38,7 @@ in_numbers b (suc n) h = go (in_numbers b n) (cases_eq b n)
     go ih (inl e) = subst (λ c. In b (c ∷ numbers_below n)) e here
     go ih (inr e) = there (ih (omega arith))
 
-in_fields : (bound width : ℕ) (f : Field) → length f ≡ width → All (λ b. b < bound) f → In f (all_fields bound width)
+in_fields : (bound width : ℕ) (f : Field) → length f ≡ width → AllByRecursion (λ b. b < bound) f → In f (all_fields bound width)
 unfolding all_fields
 in_fields bound zero [] e all = here
 in_fields bound zero (b ∷ f) e all = absurd (omega arith)

@@ -1,7 +1,7 @@
 -- The test for a word finds words, and no others.
 use Rattle.std.specs.Prelude.{◌≡◌, ℕ, zero, suc, ◌-◌, ◌<◌, ◌≤◌, true, ◌&&◌, List, [], ◌∷◌, ◌++◌, length, take, drop, replicate, ◌==◌, nat_le, nat_lt, refl}
 use Rattle.std.proofs.Common.{sym, ap, subst, ◌∙◌, ⊎_elim, arith, take-append-drop, length-append}
-use Rattle.std.specs.List.{AllByRecursion as All}
+use Rattle.std.specs.List.{AllByRecursion}
 use Rattle.std.proofs.ByRecursion.{All-append, All-weaker}
 use Rattle.std.proofs.lemmas.List.{length-take-le, length-drop, drop_at, length-replicate}
 use Rattle.std.proofs.lemmas.Bool.{and_parts, and_from, eqb-true, ltb-true, eq-eqb, lt-ltb, leb-true, or_cases, cond_both}
@@ -20,16 +20,16 @@ pub front_within : (xs : List ℕ) → front xs ≤ length xs
 front_within [] = omega arith
 front_within (x ∷ xs) = cond_both (letter x) (suc (front xs)) 0 (λ n. n ≤ suc (length xs)) (λ e. omega (arith, front_within xs)) (λ e. omega arith)
 
-front_letters : (xs : List ℕ) → All (λ b. letter b ≡ true) (take (front xs) xs)
+front_letters : (xs : List ℕ) → AllByRecursion (λ b. letter b ≡ true) (take (front xs) xs)
 front_letters [] = tt
 front_letters (x ∷ xs) =
-    cond_both (letter x) (suc (front xs)) 0 (λ n. All (λ b. letter b ≡ true) (take n (x ∷ xs))) (λ e. (e, front_letters xs)) (λ e. tt)
+    cond_both (letter x) (suc (front xs)) 0 (λ n. AllByRecursion (λ b. letter b ≡ true) (take n (x ∷ xs))) (λ e. (e, front_letters xs)) (λ e. tt)
 
 front_zeros : (n : ℕ) → front (replicate n 0) ≡ 0
 front_zeros zero = refl
 front_zeros (suc n) = refl
 
-front_word : (word : List ℕ) (n : ℕ) → All (λ b. letter b ≡ true) word → front (word ++ replicate n 0) ≡ length word
+front_word : (word : List ℕ) (n : ℕ) → AllByRecursion (λ b. letter b ≡ true) word → front (word ++ replicate n 0) ≡ length word
 front_word [] n all = front_zeros n
 front_word (b ∷ bs) n all = rw all.0 (ap (λ (k : ℕ). suc k) (front_word bs n all.1))
 
@@ -51,7 +51,7 @@ word_from_lawful f e =
       then_zeros = sym (take-append-drop (front f) f) ∙ ap (λ zs. take (front f) f ++ zs) (zeros_are (drop (front f) f) rest.1 ∙ ap (λ n. replicate n 0) left);
     }
 
-pub lawful_padded : (word : List ℕ) → 1 ≤ length word → length word ≤ 24 → All (λ b. letter b ≡ true) word → lawful_word (padded word) ≡ true
+pub lawful_padded : (word : List ℕ) → 1 ≤ length word → length word ≤ 24 → AllByRecursion (λ b. letter b ≡ true) word → lawful_word (padded word) ≡ true
 unfolding letters_then_zeros
 lawful_padded word some fits all =
     let long : length (padded word) ≡ 24 = simp (length-append, length-replicate) (omega arith) in

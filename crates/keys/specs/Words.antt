@@ -1,6 +1,6 @@
 -- Narration words as keys: 1 to 24 letters, then zeros.
 use Rattle.std.specs.Prelude.{◌≡◌, ℕ, suc, ◌-◌, ◌≤◌, Bool, true, cond, ◌&&◌, ◌||◌, List, [], ◌∷◌, ◌++◌, length, drop, replicate, ◌==◌, nat_le, nat_lt}
-use Rattle.std.specs.List.{AllByRecursion as All}
+use Rattle.std.specs.List.{AllByRecursion}
 use Rattle.keys.specs.Kinds.{Field}
 use Rattle.keys.specs.Fields.{zeros_only}
 
@@ -17,7 +17,7 @@ pub record Word (f : Field) : Type 0 where
   pub word : List ℕ
   pub at_least_1 : 1 ≤ length word
   pub at_most_24 : length word ≤ 24
-  pub letters : All (λ b. letter b ≡ true) word
+  pub letters : AllByRecursion (λ b. letter b ≡ true) word
   pub then_zeros : f ≡ padded word
 
 -- how many letters stand in front

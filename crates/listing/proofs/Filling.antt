@@ -1,7 +1,7 @@
 -- Rows put one after another into a buffer. Assumes nothing.
 use Rattle.std.proofs.Common.{◌≡◌, ℕ, zero, suc, ◌+◌, ◌-◌, ◌*◌, ◌/◌, ◌<◌, ◌≤◌, Bool, true, false, cond, ltb, leb, List, [], ◌∷◌, ◌++◌, length, get_or, take, drop, sym, refl, ap, ◌∙◌, ⊎_elim, add-zero, arith}
 use native.Mathlib.Nat.{sub-zero}
-use Rattle.std.specs.List.{flat_map, AllByRecursion as All}
+use Rattle.std.specs.List.{flat_map, AllByRecursion}
 use Rattle.std.proofs.lemmas.List.{append_assoc, length-append, length-map, length-take-le, drop-drop, take-append-drop, map_more}
 use Rattle.std.proofs.lemmas.Bool.{cases_lt, leb-true, leb-false, ltb-true, ltb-false, le-leb, lt-leb, and_parts, and_cases}
 use Rattle.std.proofs.ByRecursion.{All-drop}
@@ -19,7 +19,7 @@ Whole row = length row.key ≡ 24
 pub length_row : (row : Listed) → Whole row → length (listed_bytes row) ≡ 32
 length_row row whole = length-append row.key (bytes_of 8 row.posting) ∙ omega (arith, length_bytes_of 8 row.posting)
 
-pub rows_whole : (key : Field) (postings : List ℕ) → length key ≡ 24 → All Whole (rows_of key postings)
+pub rows_whole : (key : Field) (postings : List ℕ) → length key ≡ 24 → AllByRecursion Whole (rows_of key postings)
 rows_whole key [] e = tt
 rows_whole key (p ∷ ps) e = (e, rows_whole key ps e)
 
@@ -56,7 +56,7 @@ filled_append skip at (row ∷ rows) b buffer =
     filled_append skip (at + 1) rows b (row_put skip at row buffer) ∙ ap (λ (n : ℕ). filled skip n b (filled skip (at + 1) rows (row_put skip at row buffer))) on
 
 -- rows of which none is shown leave the buffer as it is
-pub filled_outside : (skip at : ℕ) (rows : List Listed) (buffer : List ℕ) → All Whole rows → ((k : ℕ) → at ≤ k → k < at + length rows → skip ≤ k → length buffer / 32 ≤ k - skip) → filled skip at rows buffer ≡ buffer
+pub filled_outside : (skip at : ℕ) (rows : List Listed) (buffer : List ℕ) → AllByRecursion Whole rows → ((k : ℕ) → at ≤ k → k < at + length rows → skip ≤ k → length buffer / 32 ≤ k - skip) → filled skip at rows buffer ≡ buffer
 filled_outside skip at [] buffer whole out = refl
 filled_outside skip at (row ∷ rows) buffer whole out =
     let here : row_put skip at row buffer ≡ buffer = ⊎_elim (λ h. put_skipped skip at row buffer h) (λ h. put_past skip at row buffer whole.0 (out at (omega arith) (omega arith) h)) (cases_lt at skip) in
@@ -83,7 +83,7 @@ from_skip skip at (row ∷ rows) buffer h = ⊎_elim (λ lt. before lt (from_ski
         ap (λ (n : ℕ). filled skip n (row ∷ rows) buffer) same ∙ ap (λ (n : ℕ). filled skip skip (drop n (row ∷ rows)) buffer) (sym none)
 
 -- from the first row that is shown on: those before stay, and others come behind them
-from_there : (skip n : ℕ) (rows : List Listed) (buffer : List ℕ) → All Whole rows → n ≤ length buffer / 32 → filled skip (skip + n) rows buffer ≡ take (32 * n) buffer ++ buffer_with (take (length buffer / 32 - n) rows) (drop (32 * n) buffer)
+from_there : (skip n : ℕ) (rows : List Listed) (buffer : List ℕ) → AllByRecursion Whole rows → n ≤ length buffer / 32 → filled skip (skip + n) rows buffer ≡ take (32 * n) buffer ++ buffer_with (take (length buffer / 32 - n) rows) (drop (32 * n) buffer)
 from_there skip n [] buffer whole h = go (length buffer / 32 - n)
   where
     go : (left : ℕ) → buffer ≡ take (32 * n) buffer ++ buffer_with (take left []) (drop (32 * n) buffer)
@@ -128,7 +128,7 @@ from_there skip n (row ∷ rows) buffer whole h =
         ∙ ap (λ (xs : List ℕ). take (32 * n) buffer ++ ((bytes ++ flat_map listed_bytes later) ++ xs)) left
         ∙ ap (λ (m : ℕ). take (32 * n) buffer ++ buffer_with (take m (row ∷ rows)) (drop (32 * n) buffer)) (sym one)
 
-pub filled_is : (skip : ℕ) (rows : List Listed) (buffer : List ℕ) → All Whole rows → filled skip 0 rows buffer ≡ buffer_with (take (length buffer / 32) (drop skip rows)) buffer
+pub filled_is : (skip : ℕ) (rows : List Listed) (buffer : List ℕ) → AllByRecursion Whole rows → filled skip 0 rows buffer ≡ buffer_with (take (length buffer / 32) (drop skip rows)) buffer
 filled_is skip rows buffer whole =
     from_skip skip 0 rows buffer (omega arith)
     ∙ ap (λ (n : ℕ). filled skip skip (drop n rows) buffer) (sub-zero skip)

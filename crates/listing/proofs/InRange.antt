@@ -1,6 +1,6 @@
 -- Which entries are listed: none below the first key, and none from the first key above the second on. Assumes nothing.
 use Rattle.std.proofs.Common.{◌≡◌, ℕ, Bool, true, false, cond, not, ◌&&◌, List, [], ◌∷◌, ◌++◌, map, Some, None, Option, refl, ap, ◌∙◌, arith}
-use Rattle.std.specs.List.{AllByRecursion as All}
+use Rattle.std.specs.List.{AllByRecursion}
 use Rattle.std.proofs.lemmas.Bool.{and_from, and_left, and_right, not_from_true, not_from_false, cond-true, cond-false}
 use Rattle.keys.specs.Kinds.{Kind, Field, below}
 use Rattle.keys.proofs.Orders.{below_transitive}
@@ -41,7 +41,7 @@ module _ (kind : Kind) (first second : Field) where
       cond-true (within kind first second entry.key) (rows_at entry) [] (and_from (not (below kind entry.key first)) (not (below kind second entry.key)) (not_from_false (below kind entry.key first) from) (not_from_false (below kind second entry.key) to))
 
   -- entries below the first key
-  pub below_none : (entries : List EntryAt) → All (λ (key : Field). below kind key first ≡ true) (keys_at entries) → listed_at kind first second entries ≡ []
+  pub below_none : (entries : List EntryAt) → AllByRecursion (λ (key : Field). below kind key first ≡ true) (keys_at entries) → listed_at kind first second entries ≡ []
   below_none [] under = refl
   below_none (entry ∷ entries) under = ap (λ (rows : List Listed). rows ++ listed_at kind first second entries) (not_below_first entry under.0) ∙ below_none entries under.1
 

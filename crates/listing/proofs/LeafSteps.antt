@@ -1,6 +1,6 @@
 -- The walk over the entries of a leaf: what it keeps, and where it ends. Assumes nothing.
 use Rattle.std.proofs.Common.{◌≡◌, ℕ, ◌+◌, ◌≤◌, Bool, true, false, cond, ◌&&◌, List, [], ◌∷◌, ◌++◌, map, length, drop, Some, None, Ok, Err, Option, Result, sym, refl, ap, ◌∙◌, subst, append_assoc, append-nil, arith}
-use Rattle.std.specs.List.{AllByRecursion as All}
+use Rattle.std.specs.List.{AllByRecursion}
 use Rattle.std.proofs.lemmas.List.{drop_all}
 use Rattle.std.proofs.lemmas.Result.{MatchResult-at_ok, MatchResult-at_err}
 use Rattle.std.proofs.lemmas.Bool.{false≢true}
@@ -103,7 +103,7 @@ module _ (kind : Kind) (pages : Pages) (page : LeafPage) (first second : Field) 
 
       chain_readable : ReadableChain pages (head_of front.entry.records) front.entry.records
       chain_readable =
-          (all_back (λ (entry : EntryAt). ReadableChain pages (head_of entry.records) entry.records) here.passed (front.entry ∷ front.rest) (subst (λ (es : List EntryAt). All (λ (entry : EntryAt). ReadableChain pages (head_of entry.records) entry.records) es) whole asked.readable.chains_are_readable)).0
+          (all_back (λ (entry : EntryAt). ReadableChain pages (head_of entry.records) entry.records) here.passed (front.entry ∷ front.rest) (subst (λ (es : List EntryAt). AllByRecursion (λ (entry : EntryAt). ReadableChain pages (head_of entry.records) entry.records) es) whole asked.readable.chains_are_readable)).0
 
       -- a key above the second: nothing is listed from there on
       leaf_is_done : below kind second y.key ≡ true → LeafPassed kind first second leaf.entries at skip buffer (record { at = next; is_done = true }) now'

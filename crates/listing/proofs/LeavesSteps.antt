@@ -1,6 +1,6 @@
 -- The walk over leaves side by side: what it keeps, and where it ends. Assumes nothing.
 use Rattle.std.proofs.Common.{◌≡◌, ℕ, suc, ◌+◌, ◌≤◌, Bool, true, false, cond, eqb, ◌⊎◌, List, [], ◌∷◌, ◌++◌, length, Some, None, Ok, Err, Option, Result, sym, refl, ap, ◌∙◌, subst, inl, inr, ⊎_elim, append_assoc, append-nil, arith}
-use Rattle.std.specs.List.{flat_map, AllByRecursion as All}
+use Rattle.std.specs.List.{flat_map, AllByRecursion}
 use Rattle.std.proofs.lemmas.Result.{MatchResult-at_ok, MatchResult-at_err}
 use Rattle.std.proofs.lemmas.Bool.{eqb-true, eqb-false}
 use Rattle.refusals.specs.declared.Refusal.{Refusal}
@@ -108,7 +108,7 @@ module _ (kind : Kind) (m : Meaning) (start : LeafPage) (first second : Field) (
       same_next = ap (λ (p : LeafPage). p.next) way.asked.is_it
 
       -- page 0 is no leaf
-      no_right : (others : List Leaf) → page.next ≡ next_leaf others → All (ReadableLeaf m.pages) others → page.next ≡ 0 → entries_in others ≡ []
+      no_right : (others : List Leaf) → page.next ≡ next_leaf others → AllByRecursion (ReadableLeaf m.pages) others → page.next ≡ 0 → entries_in others ≡ []
       no_right [] is readable none = refl
       no_right (other ∷ others) is readable none = absurd (let some = readable.0.stands.not_on_page_0 in omega arith)
 
@@ -126,7 +126,7 @@ module _ (kind : Kind) (m : Meaning) (start : LeafPage) (first second : Field) (
           pub is_it : others ≡ other ∷ rest
           pub stands : Stands leaf_image LeafFits m.pages on (leaf_page other)
 
-        next_leaf_on : (others : List Leaf) → on ≡ next_leaf others → All (ReadableLeaf m.pages) others → (on ≡ 0 → ⊥) → Next others
+        next_leaf_on : (others : List Leaf) → on ≡ next_leaf others → AllByRecursion (ReadableLeaf m.pages) others → (on ≡ 0 → ⊥) → Next others
         next_leaf_on [] is readable some = absurd (some is)
         next_leaf_on (other ∷ rest) is readable some =
             record { other = other; rest = rest; is_it = refl; stands = subst (λ (n : ℕ). Stands leaf_image LeafFits m.pages n (leaf_page other)) (sym is) readable.0.stands }
@@ -146,7 +146,7 @@ module _ (kind : Kind) (m : Meaning) (start : LeafPage) (first second : Field) (
               let size : length way.right ≡ suc (length there.rest) = ap length there.is_it in
               let few = all.no_more_than_pages in
               record {
-                each_is_readable = subst (λ (ls : List Leaf). All (ReadableLeaf m.pages) ls) there.is_it all.each_is_readable.1;
+                each_is_readable = subst (λ (ls : List Leaf). AllByRecursion (ReadableLeaf m.pages) ls) there.is_it all.each_is_readable.1;
                 are_linked = subst Linked there.is_it all.are_linked.1;
                 keys_rise = subst (λ (ls : List Leaf). Rise kind None (keys_in ls)) there.is_it (rise_back kind None way.here.entries (entries_in way.right) all.keys_rise);
                 no_more_than_pages = omega arith;

@@ -1,6 +1,6 @@
 -- Rows put in several goes, and rows of which none is shown. Assumes nothing.
 use Rattle.std.proofs.Common.{◌≡◌, ℕ, ◌+◌, ◌-◌, ◌/◌, max, true, false, ltb, leb, List, [], ◌++◌, length, sym, refl, ap, ◌∙◌, ⊎_elim, arith}
-use Rattle.std.specs.List.{AllByRecursion as All}
+use Rattle.std.specs.List.{AllByRecursion}
 use Rattle.std.proofs.lemmas.List.{length-append, length-map, map-append}
 use Rattle.std.proofs.lemmas.Bool.{leb-true, leb-false, ltb-false, and_parts, and_cases}
 use Rattle.keys.specs.Kinds.{Field}
@@ -34,7 +34,7 @@ put_on a b at skip buffer mid between next after one two =
     }
 
 -- past the rows that are shown, nothing changes
-pub past_leaves : (skip at : ℕ) (rows : List Listed) (buffer : List ℕ) → All Whole rows → is_past skip (length buffer) at ≡ true → filled skip at rows buffer ≡ buffer
+pub past_leaves : (skip at : ℕ) (rows : List Listed) (buffer : List ℕ) → AllByRecursion Whole rows → is_past skip (length buffer) at ≡ true → filled skip at rows buffer ≡ buffer
 past_leaves skip at rows buffer whole past =
     let parts = and_parts (leb skip at) (leb (length buffer / 32) (at - skip)) past in
     let from = leb-true skip at parts.0 in
@@ -42,7 +42,7 @@ past_leaves skip at rows buffer whole past =
     filled_outside skip at rows buffer whole (λ k low high shown. omega arith)
 
 -- nor where none of so many rows is shown
-pub none_leaves : (skip from to : ℕ) (rows : List Listed) (buffer : List ℕ) → All Whole rows → to ≡ from + length rows → is_any_shown skip (length buffer) from to ≡ false → filled skip from rows buffer ≡ buffer
+pub none_leaves : (skip from to : ℕ) (rows : List Listed) (buffer : List ℕ) → AllByRecursion Whole rows → to ≡ from + length rows → is_any_shown skip (length buffer) from to ≡ false → filled skip from rows buffer ≡ buffer
 none_leaves skip from to rows buffer whole count none =
     filled_outside skip from rows buffer whole (λ k low high shown.
     ⊎_elim

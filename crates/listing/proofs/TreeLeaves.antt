@@ -1,6 +1,6 @@
 -- The leaves of a valid tree from any of them on can be read one after another. Assumes nothing.
 use Rattle.std.proofs.Common.{◌≡◌, ◌<◌, ◌≤◌, List, [], ◌∷◌, ◌++◌, length, None, subst, arith}
-use Rattle.std.specs.List.{flat_map, AllByRecursion as All}
+use Rattle.std.specs.List.{flat_map, AllByRecursion}
 use Rattle.std.proofs.lemmas.List.{length-append}
 use Rattle.keys.specs.Kinds.{Kind}
 use Rattle.book.specs.Entries.{Entries}
@@ -16,8 +16,8 @@ use Rattle.listing.specs.Readable.{ReadableChain, ReadableLeaf, ReadableLeaves}
 use Rattle.listing.proofs.InRange.{keys_at, rise_back}
 
 -- chains, entry by entry
-chains_readable : (pages : Pages) (entries : List EntryAt) → All (λ (entry : EntryAt). SpellChain pages entry.records) entries → All (λ (entry : EntryAt). ChainFits entry.records) entries → All (λ (entry : EntryAt). All (Linkable (length pages)) (chain_pages entry)) entries → All (λ (entry : EntryAt). length entry.records < length pages) entries
-    → All (λ (entry : EntryAt). ReadableChain pages (head_of entry.records) entry.records) entries
+chains_readable : (pages : Pages) (entries : List EntryAt) → AllByRecursion (λ (entry : EntryAt). SpellChain pages entry.records) entries → AllByRecursion (λ (entry : EntryAt). ChainFits entry.records) entries → AllByRecursion (λ (entry : EntryAt). AllByRecursion (Linkable (length pages)) (chain_pages entry)) entries → AllByRecursion (λ (entry : EntryAt). length entry.records < length pages) entries
+    → AllByRecursion (λ (entry : EntryAt). ReadableChain pages (head_of entry.records) entry.records) entries
 chains_readable pages [] spelled fits linkable short = tt
 chains_readable pages (entry ∷ entries) spelled fits linkable short = (
   record { starts_there = chain_from pages (length pages) entry.records spelled.0 fits.0 linkable.0; fewer_than_pages = short.0 },
@@ -25,9 +25,9 @@ chains_readable pages (entry ∷ entries) spelled fits linkable short = (
 )
 
 -- leaf by leaf
-leaves_readable : (kind : Kind) (pages : Pages) (leaves : List Leaf) → All (LeafWhole kind pages) leaves → All (λ (leaf : Leaf). Linkable (length pages) leaf.page) leaves
-    → All (λ (leaf : Leaf). All (λ (entry : EntryAt). All (Linkable (length pages)) (chain_pages entry)) leaf.entries) leaves → All (λ (leaf : Leaf). All (λ (entry : EntryAt). length entry.records < length pages) leaf.entries) leaves
-    → All (ReadableLeaf pages) leaves
+leaves_readable : (kind : Kind) (pages : Pages) (leaves : List Leaf) → AllByRecursion (LeafWhole kind pages) leaves → AllByRecursion (λ (leaf : Leaf). Linkable (length pages) leaf.page) leaves
+    → AllByRecursion (λ (leaf : Leaf). AllByRecursion (λ (entry : EntryAt). AllByRecursion (Linkable (length pages)) (chain_pages entry)) leaf.entries) leaves → AllByRecursion (λ (leaf : Leaf). AllByRecursion (λ (entry : EntryAt). length entry.records < length pages) leaf.entries) leaves
+    → AllByRecursion (ReadableLeaf pages) leaves
 leaves_readable kind pages [] whole placed linkable short = tt
 leaves_readable kind pages (leaf ∷ leaves) whole placed linkable short = (
   record {
@@ -65,7 +65,7 @@ module _ (kind : Kind) (pages : Pages) (entries : Entries) (valid : Valid kind p
         each_is_readable =
             leaves_readable kind pages leaves (leaves_whole kind pages entries valid few)
             (leaves_among_nodes (Linkable (length pages)) levels tree (node_pages_linkable kind pages entries valid))
-            (all_parts (λ (entry : EntryAt). All (Linkable (length pages)) (chain_pages entry)) in_each leaves (chains_linkable kind pages entries valid))
+            (all_parts (λ (entry : EntryAt). AllByRecursion (Linkable (length pages)) (chain_pages entry)) in_each leaves (chains_linkable kind pages entries valid))
             (all_parts (λ (entry : EntryAt). length entry.records < length pages) in_each leaves (chains_short kind pages entries valid));
         are_linked = valid.leaves_are_linked;
         keys_rise = keys_rise kind levels tree valid.keys_are_in_order;

@@ -1,6 +1,6 @@
 -- A listing as a whole: the rows of the tree are those of the book. Assumes nothing.
 use Rattle.std.proofs.Common.{◌≡◌, ℕ, ◌-◌, ◌/◌, ◌≤◌, min, Bool, true, false, cond, List, [], ◌∷◌, ◌++◌, map, length, None, Ok, Err, filter, Result, sym, refl, ap, ◌∙◌, subst, arith, MatchResult}
-use Rattle.std.specs.List.{flat_map, AllByRecursion as All}
+use Rattle.std.specs.List.{flat_map, AllByRecursion}
 use Rattle.std.proofs.ByRecursion.{All-weaker}
 use Rattle.std.proofs.lemmas.Result.{MatchResult-at_ok, MatchResult-at_err}
 use Rattle.refusals.specs.declared.Refusal.{Refusal}
@@ -54,7 +54,7 @@ module _ (kind : Kind) (book : Book) (sorted : Sorted kind book) (first second :
   bounds_accepted : bounds_answer kind first second ≡ Accepted tt
   bounds_accepted = rw (lf, ls)
 
-  rows_whole : All Whole (listed kind book first second)
+  rows_whole : AllByRecursion Whole (listed kind book first second)
   rows_whole =
       All-weaker (LawfulRow kind) Whole (λ row lawful. kind.fields_have_24_bytes row.key lawful) (listed kind book first second)
       (lawful_listed kind None book (λ (h : Held (List ℕ)). within kind first second h.key) sorted)

@@ -1,6 +1,6 @@
 -- What of a tree can be read from pages, part by part: chains of records, entries with their chains, leaves with their entries.
 use Rattle.std.specs.Prelude.{ℕ, ◌<◌, ◌≤◌, List, map, length, None}
-use Rattle.std.specs.List.{AllByRecursion as All}
+use Rattle.std.specs.List.{AllByRecursion}
 use Rattle.keys.specs.Kinds.{Kind}
 use Rattle.nodes.specs.Layout.{LeafPage, LeafFits, leaf_image}
 use Rattle.tree.specs.Trees.{RecordAt, EntryAt, Leaf}
@@ -25,11 +25,11 @@ pub record ReadableChain (pages : Pages) (page : ℕ) (records : List RecordAt) 
 
 pub record ReadableLeaf (pages : Pages) (leaf : Leaf) : Type 0 where
   pub stands : Stands leaf_image LeafFits pages leaf.page (leaf_page leaf)
-  pub chains_are_readable : All (λ (entry : EntryAt). ReadableChain pages (head_of entry.records) entry.records) leaf.entries
+  pub chains_are_readable : AllByRecursion (λ (entry : EntryAt). ReadableChain pages (head_of entry.records) entry.records) leaf.entries
 
 -- leaves side by side, with keys that rise from the first leaf to the last
 pub record ReadableLeaves (kind : Kind) (pages : Pages) (leaves : List Leaf) : Type 0 where
-  pub each_is_readable : All (ReadableLeaf pages) leaves
+  pub each_is_readable : AllByRecursion (ReadableLeaf pages) leaves
   pub are_linked : Linked leaves
   pub keys_rise : Rise kind None (keys_in leaves)
   pub no_more_than_pages : length leaves ≤ length pages

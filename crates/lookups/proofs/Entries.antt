@@ -1,7 +1,7 @@
 -- What is shown of an entry, and of a key in a valid tree. Assumes nothing.
 use Rattle.std.proofs.Common.{◌≡◌, ℕ, zero, suc, ◌+◌, ◌<◌, ◌≤◌, min, Bool, true, false, cond, List, [], ◌∷◌, ◌++◌, map, length, take, drop, sym, refl, ap, ◌∙◌, subst, arith, length-append}
 use Rattle.std.specs.Ordering.{is_eq}
-use Rattle.std.specs.List.{flat_map, AllByRecursion as All}
+use Rattle.std.specs.List.{flat_map, AllByRecursion}
 use Rattle.std.proofs.lemmas.List.{length-map, length-take, length-take-le, map-append}
 use Rattle.keys.specs.Kinds.{Kind, Field, below}
 use Rattle.keys.proofs.Orders.{below_irreflexive}
@@ -52,7 +52,7 @@ module _ (kind : Kind) (key : Field) (lk : kind.lawful key ≡ true) where
   abbrev pub Other : EntryAt → Type 0
   Other entry = (kind.lawful entry.key ≡ true) × (entry.key ≡ key → ⊥)
 
-  pub passed_over : (others rest : List EntryAt) → All Other others → value_at kind paged key (map held (others ++ rest)) ≡ value_at kind paged key (map held rest)
+  pub passed_over : (others rest : List EntryAt) → AllByRecursion Other others → value_at kind paged key (map held (others ++ rest)) ≡ value_at kind paged key (map held rest)
   passed_over [] rest all = refl
   passed_over (e ∷ es) rest all =
       ap (λ (b : Bool). cond b (held e).value (value_at kind paged key (map held (es ++ rest)))) (other_key kind key e.key lk all.0.0 (λ same. all.0.1 (sym same))) ∙ passed_over es rest all.1

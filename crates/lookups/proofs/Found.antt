@@ -1,6 +1,6 @@
 -- The entry of a leaf that has a key. Assumes nothing.
 use Rattle.std.proofs.Common.{◌≡◌, ℕ, ◌+◌, ◌<◌, ◌≤◌, Bool, true, false, List, [], ◌∷◌, ◌++◌, map, length, get_or, take, drop, Decides, sym, refl, ap, ◌∙◌, subst, arith, take-append-drop}
-use Rattle.std.specs.List.{AllByRecursion as All}
+use Rattle.std.specs.List.{AllByRecursion}
 use Rattle.std.proofs.ByRecursion.{All-more, All-append}
 use Rattle.std.proofs.lemmas.List.{take_all, get_or-map, get_or-take, length-map, length-take-le}
 use Rattle.keys.specs.Kinds.{Field}

@@ -1,6 +1,6 @@
 -- The entry of a key stands in the leaf that the way down arrives at, if it stands anywhere. Assumes nothing.
 use Rattle.std.proofs.Common.{◌≡◌, ℕ, ◌<◌, ◌≤◌, Bool, true, false, List, [], ◌∷◌, ◌++◌, map, length, Some, None, Result, sym, refl, ap, ◌∙◌, subst, append_assoc, append-nil, arith, MatchResult}
-use Rattle.std.specs.List.{flat_map, AllByRecursion as All}
+use Rattle.std.specs.List.{flat_map, AllByRecursion}
 use Rattle.std.proofs.lemmas.Result.{MatchResult-weaker}
 use Rattle.refusals.specs.declared.Refusal.{Refusal}
 use Rattle.keys.specs.Kinds.{Kind, Field, below}
@@ -39,17 +39,17 @@ map_split f (x ∷ xs) (b ∷ before) after y e =
 
 module _ (kind : Kind) (key : Field) (lk : kind.lawful key ≡ true) where
   -- entries below or above a key are others
-  others_below : (es : List EntryAt) → All (λ (e : EntryAt). kind.lawful e.key ≡ true) es → All (λ (e : EntryAt). below kind e.key key ≡ true) es → All (Other kind key lk) es
+  others_below : (es : List EntryAt) → AllByRecursion (λ (e : EntryAt). kind.lawful e.key ≡ true) es → AllByRecursion (λ (e : EntryAt). below kind e.key key ≡ true) es → AllByRecursion (Other kind key lk) es
   others_below [] lawful all = tt
   others_below (e ∷ es) lawful all =
       ((lawful.0, λ same. let own : below kind key key ≡ true = ap (λ (k : Field). below kind k key) (sym same) ∙ all.0 in let none = below_irreflexive kind key lk in let z : ◌≡◌ {A = ℕ} 0 1 = cc in omega arith), others_below es lawful.1 all.1)
 
-  others_above : (es : List EntryAt) → All (λ (e : EntryAt). kind.lawful e.key ≡ true) es → All (λ (e : EntryAt). below kind key e.key ≡ true) es → All (Other kind key lk) es
+  others_above : (es : List EntryAt) → AllByRecursion (λ (e : EntryAt). kind.lawful e.key ≡ true) es → AllByRecursion (λ (e : EntryAt). below kind key e.key ≡ true) es → AllByRecursion (Other kind key lk) es
   others_above [] lawful all = tt
   others_above (e ∷ es) lawful all =
       ((lawful.0, λ same. let own : below kind key key ≡ true = ap (λ (k : Field). below kind key k) (sym same) ∙ all.0 in let none = below_irreflexive kind key lk in let z : ◌≡◌ {A = ℕ} 0 1 = cc in omega arith), others_above es lawful.1 all.1)
 
-  others_lacking : (es : List EntryAt) → All (λ (e : EntryAt). kind.lawful e.key ≡ true) es → Lacks key (map entry_in es) → All (Other kind key lk) es
+  others_lacking : (es : List EntryAt) → AllByRecursion (λ (e : EntryAt). kind.lawful e.key ≡ true) es → Lacks key (map entry_in es) → AllByRecursion (Other kind key lk) es
   others_lacking [] lawful lacks = tt
   others_lacking (e ∷ es) lawful lacks = ((lawful.0, lacks.0), others_lacking es lawful.1 lacks.1)
 
@@ -61,21 +61,21 @@ module _ (kind : Kind) (pages : Pages) (entries : Entries) (valid : Valid kind p
   unfolding in_leaves
   all_entries = ap (flat_map (λ (leaf : Leaf). leaf.entries)) there.is_among_the_leaves ∙ joined_append (λ (leaf : Leaf). leaf.entries) there.left (there.leaf ∷ there.right)
 
-  all_lawful : All (λ (e : EntryAt). kind.lawful e.key ≡ true) (in_leaves there.left ++ (there.leaf.entries ++ in_leaves there.right))
+  all_lawful : AllByRecursion (λ (e : EntryAt). kind.lawful e.key ≡ true) (in_leaves there.left ++ (there.leaf.entries ++ in_leaves there.right))
   all_lawful =
-      subst (All (λ (e : EntryAt). kind.lawful e.key ≡ true)) all_entries
+      subst (AllByRecursion (λ (e : EntryAt). kind.lawful e.key ≡ true)) all_entries
       (all_unmapped (λ (k : Field). kind.lawful k ≡ true) (λ (e : EntryAt). e.key) (entries_of valid.levels valid.tree) (keys_lawful kind valid.levels valid.tree valid.keys_are_in_order))
 
-  leaf_lawful : All (λ (e : EntryAt). kind.lawful e.key ≡ true) there.leaf.entries
+  leaf_lawful : AllByRecursion (λ (e : EntryAt). kind.lawful e.key ≡ true) there.leaf.entries
   leaf_lawful = all_front (λ (e : EntryAt). kind.lawful e.key ≡ true) there.leaf.entries (in_leaves there.right) (all_back (λ (e : EntryAt). kind.lawful e.key ≡ true) (in_leaves there.left) (there.leaf.entries ++ in_leaves there.right) all_lawful)
 
-  left_others : All (Other kind key lk) (in_leaves there.left)
+  left_others : AllByRecursion (Other kind key lk) (in_leaves there.left)
   unfolding in_leaves
   left_others =
       others_below kind key lk (in_leaves there.left) (all_front (λ (e : EntryAt). kind.lawful e.key ≡ true) (in_leaves there.left) (there.leaf.entries ++ in_leaves there.right) all_lawful)
       (all_unmapped (λ (k : Field). below kind k key ≡ true) (λ (e : EntryAt). e.key) (in_leaves there.left) there.left_lies_below)
 
-  right_others : All (Other kind key lk) (in_leaves there.right)
+  right_others : AllByRecursion (Other kind key lk) (in_leaves there.right)
   unfolding in_leaves
   right_others =
       others_above kind key lk (in_leaves there.right) (all_back (λ (e : EntryAt). kind.lawful e.key ≡ true) there.leaf.entries (in_leaves there.right) (all_back (λ (e : EntryAt). kind.lawful e.key ≡ true) (in_leaves there.left) (there.leaf.entries ++ in_leaves there.right) all_lawful))
@@ -100,13 +100,13 @@ module _ (kind : Kind) (pages : Pages) (entries : Entries) (valid : Valid kind p
     pub is_short : length found.records ≤ length pages
 
   the_leaf : LeafWhole kind pages there.leaf
-  the_leaf = (all_back (LeafWhole kind pages) there.left (there.leaf ∷ there.right) (subst (All (LeafWhole kind pages)) there.is_among_the_leaves (leaves_whole kind pages entries valid few))).0
+  the_leaf = (all_back (LeafWhole kind pages) there.left (there.leaf ∷ there.right) (subst (AllByRecursion (LeafWhole kind pages)) there.is_among_the_leaves (leaves_whole kind pages entries valid few))).0
 
-  of_the_leaf : (P : EntryAt → Type 0) → All P (entries_of valid.levels valid.tree) → All P there.leaf.entries
-  of_the_leaf P all = all_front P there.leaf.entries (in_leaves there.right) (all_back P (in_leaves there.left) (there.leaf.entries ++ in_leaves there.right) (subst (All P) all_entries all))
+  of_the_leaf : (P : EntryAt → Type 0) → AllByRecursion P (entries_of valid.levels valid.tree) → AllByRecursion P there.leaf.entries
+  of_the_leaf P all = all_front P there.leaf.entries (in_leaves there.right) (all_back P (in_leaves there.left) (there.leaf.entries ++ in_leaves there.right) (subst (AllByRecursion P) all_entries all))
 
-  one_of : (P : EntryAt → Type 0) (front back : List EntryAt) (found : EntryAt) → there.leaf.entries ≡ front ++ (found ∷ back) → All P there.leaf.entries → P found
-  one_of P front back found is all = (all_back P front (found ∷ back) (subst (All P) is all)).0
+  one_of : (P : EntryAt → Type 0) (front back : List EntryAt) (found : EntryAt) → there.leaf.entries ≡ front ++ (found ∷ back) → AllByRecursion P there.leaf.entries → P found
+  one_of P front back found is all = (all_back P front (found ∷ back) (subst (AllByRecursion P) is all)).0
 
   known : (front back : List EntryAt) (found : EntryAt) → there.leaf.entries ≡ front ++ (found ∷ back) → Lacks key (map entry_in front) → found.key ≡ key → Known found
   known front back found is lacks same =
@@ -114,12 +114,12 @@ module _ (kind : Kind) (pages : Pages) (entries : Entries) (valid : Valid kind p
         is_the_entry = in_the_leaf
             ∙ (ap (λ (es : List EntryAt). value_at kind paged key (map held (es ++ in_leaves there.right))) is
             ∙ (ap (λ (es : List EntryAt). value_at kind paged key (map held es)) (append_assoc front (found ∷ back) (in_leaves there.right))
-            ∙ (passed_over kind key lk front (found ∷ (back ++ in_leaves there.right)) (others_lacking kind key lk front (all_front (λ (e : EntryAt). kind.lawful e.key ≡ true) front (found ∷ back) (subst (All (λ (e : EntryAt). kind.lawful e.key ≡ true)) is leaf_lawful)) lacks)
+            ∙ (passed_over kind key lk front (found ∷ (back ++ in_leaves there.right)) (others_lacking kind key lk front (all_front (λ (e : EntryAt). kind.lawful e.key ≡ true) front (found ∷ back) (subst (AllByRecursion (λ (e : EntryAt). kind.lawful e.key ≡ true)) is leaf_lawful)) lacks)
             ∙ found_there kind key lk found (back ++ in_leaves there.right) same)));
         is_chained = chain_from pages (length pages) found.records
             (one_of (λ (e : EntryAt). SpellChain pages e.records) front back found is the_leaf.spelled.1)
             (one_of (λ (e : EntryAt). ChainFits e.records) front back found is the_leaf.fits.1)
-            (one_of (λ (e : EntryAt). All (Linkable (length pages)) (chain_pages e)) front back found is (of_the_leaf (λ (e : EntryAt). All (Linkable (length pages)) (chain_pages e)) (chains_linkable kind pages entries valid)));
+            (one_of (λ (e : EntryAt). AllByRecursion (Linkable (length pages)) (chain_pages e)) front back found is (of_the_leaf (λ (e : EntryAt). AllByRecursion (Linkable (length pages)) (chain_pages e)) (chains_linkable kind pages entries valid)));
         is_short = (let short = one_of (λ (e : EntryAt). length e.records < length pages) front back found is (of_the_leaf (λ (e : EntryAt). length e.records < length pages) (chains_short kind pages entries valid)) in omega arith);
       }
 

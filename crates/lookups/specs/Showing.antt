@@ -1,6 +1,6 @@
 -- What a lookup finds in a leaf and shows of an entry.
 use Rattle.std.specs.Prelude.{◌≡◌, ℕ, ◌+◌, List, [], ◌∷◌, ◌++◌, length, take, drop, Some, None, Option, ◌≢◌}
-use Rattle.std.specs.List.{AllByRecursion as All}
+use Rattle.std.specs.List.{AllByRecursion}
 use Rattle.keys.specs.Kinds.{Kind, Field}
 use Rattle.nodes.specs.Layout.{LeafEntry}
 use Rattle.book.specs.Entries.{Entries, book_of}
@@ -12,7 +12,7 @@ use Rattle.calls.specs.States.{height_of}
 use Rattle.calls.specs.Lookups.{looked_up}
 
 abbrev pub Lacks : Field → List LeafEntry → Type 0
-Lacks key entries = All (λ (entry : LeafEntry). entry.key ≢ key) entries
+Lacks key entries = AllByRecursion (λ (entry : LeafEntry). entry.key ≢ key) entries
 
 -- the first of the entries that has the key, and nothing if none has it
 abbrev pub FoundEntry : Field → List LeafEntry → Option LeafEntry → Type 0

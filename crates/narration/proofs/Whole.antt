@@ -1,6 +1,6 @@
 -- The words and gaps that a reader hands out are the whole narration, each longest and in turn.
 use Rattle.std.proofs.Common.{◌≡◌, ℕ, ◌+◌, ◌≤◌, List, [], ◌∷◌, ◌++◌, length, get_or, take, drop, Some, None, sym, refl, ap, ◌∙◌, subst, arith, take-append-drop}
-use Rattle.std.specs.List.{AllByRecursion as All}
+use Rattle.std.specs.List.{AllByRecursion}
 use Rattle.std.proofs.lemmas.List.{drop-drop, drop_all}
 use Rattle.narration.specs.declared.Token.{Token}
 use Rattle.narration.specs.declared.reader.Reader.{Reader}
@@ -19,9 +19,9 @@ module _ (table : List ℕ) where
   rest_joined s (x ∷ xs) (t, (run, at, next, same), more) =
       ap (λ rest. part_of x ++ rest) (rest_joined t xs more ∙ (λ i. drop (next i) (same i))) ∙ run_then (text s) x run ∙ ap (λ n. drop n (text s)) at
 
-  rest_longest : (s : Reader) (xs : List Token) → Handed table s xs → All (LongestRun table (text s)) xs
+  rest_longest : (s : Reader) (xs : List Token) → Handed table s xs → AllByRecursion (LongestRun table (text s)) xs
   rest_longest s [] h = tt
-  rest_longest s (x ∷ xs) (t, (run, at, next, same), more) = (run, subst (λ bytes. All (LongestRun table bytes) xs) same (rest_longest t xs more))
+  rest_longest s (x ∷ xs) (t, (run, at, next, same), more) = (run, subst (λ bytes. AllByRecursion (LongestRun table bytes) xs) same (rest_longest t xs more))
 
   rest_in_place : (s : Reader) (xs : List Token) → Handed table s xs → InPlace s.place xs
   rest_in_place s [] h = tt

@@ -1,6 +1,6 @@
 -- The key of a word is lawful: its letters are letters, and there is at least one.
 use Rattle.std.proofs.Common.{◌≡◌, ℕ, suc, ◌+◌, ◌-◌, ◌<◌, ◌≤◌, min, Bool, true, false, cond, not, ◌&&◌, ◌||◌, eqb, ltb, List, [], ◌∷◌, ◌++◌, map, length, get_or, take, drop, set, replicate, Some, None, sym, refl, ap, ◌∙◌, ⊎_elim, arith}
-use Rattle.std.specs.List.{AllByRecursion as All}
+use Rattle.std.specs.List.{AllByRecursion}
 use Rattle.std.proofs.ByRecursion.{All-take}
 use Rattle.std.proofs.lemmas.List.{length-take, length-map, get_or-take, get_or-drop, get_or_past, at_drop_more, at_drop_all, length-take-le, set-append_right, append_assoc, map_more, take_all, take-map}
 use Rattle.std.proofs.lemmas.Bool.{and_parts, and_from, ltb-true, lt-ltb, cases_lt, both_ways}
@@ -32,7 +32,7 @@ fixed_lettered b h =
     (λ past. absurd (both_ways (in_word fixed_table b) (ap (λ x. not (eqb x 0)) (get_or_past fixed_table b 0 past)) h)) (cases_lt b (length fixed_table))
 
 module _ (table : List ℕ) where
-  letters_all : Lettered table → (word : List ℕ) → all_in_word table word ≡ true → All (λ b. letter b ≡ true) (map (mapped table) word)
+  letters_all : Lettered table → (word : List ℕ) → all_in_word table word ≡ true → AllByRecursion (λ b. letter b ≡ true) (map (mapped table) word)
   letters_all lettered [] e = tt
   letters_all lettered (b ∷ bs) e =
       let both = and_parts (in_word table b) (all_in_word table bs) e in

@@ -1,6 +1,6 @@
 -- What a reader hands out: the longest words and gaps of a narration, in turn.
 use Rattle.std.specs.Prelude.{◌≡◌, ℕ, ◌+◌, ◌-◌, ◌<◌, ◌≤◌, Bool, true, false, cond, not, List, [], ◌∷◌, ◌++◌, length, take, drop, Some, None, Option, slice_index}
-use Rattle.std.specs.List.{AllByRecursion as All}
+use Rattle.std.specs.List.{AllByRecursion}
 use Rattle.keys.specs.Kinds.{Field}
 use Rattle.narration.specs.declared.Token.{Token}
 use Rattle.narration.specs.declared.Token.TheVariants.{Word, Gap}
@@ -75,7 +75,7 @@ InTurn (token ∷ (after ∷ tokens)) = (is_word after ≡ not (is_word token)) 
 -- the words and gaps of a whole narration
 pub record WholeRun (table narration : List ℕ) (tokens : List Token) : Type 0 where
   pub join_to_the_narration : joined tokens ≡ narration
-  pub are_longest_runs : All (LongestRun table narration) tokens
+  pub are_longest_runs : AllByRecursion (LongestRun table narration) tokens
   pub are_in_turn : InTurn tokens
   pub are_in_place : InPlace 0 tokens
   pub are_at_most_its_bytes : length tokens ≤ length narration

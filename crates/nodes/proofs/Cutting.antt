@@ -1,13 +1,13 @@
 -- Bytes cut into pieces of one width, and what the pieces hold. Assumes nothing.
 use Rattle.std.proofs.Common.{◌≡◌, ℕ, zero, suc, ◌+◌, ◌-◌, ◌*◌, ◌^◌, ◌<◌, ◌≤◌, List, [], ◌∷◌, ◌++◌, map, length, get_or, take, drop, set, sym, refl, ap, ◌∙◌, mul-zero, mul-suc, add-one, arith}
 use Rattle.std.proofs.lemmas.List.{append_assoc, take_at, drop_at, drop-drop, take_more_set, map_push, map-append, map-id}
-use Rattle.std.specs.List.{flat_map, AllByRecursion as All}
+use Rattle.std.specs.List.{flat_map, AllByRecursion}
 use Rattle.numbers.specs.BigEndian.{number_of, bytes_of, part, number_at}
 use Rattle.numbers.proofs.Spelling.{length_bytes_of, number_bytes_of, number_between, number_is}
 use Rattle.nodes.specs.Readings.{pieces}
 
 -- what was put together from pieces is cut into them again
-pub pieces_joined : {X : Type 0} (width : ℕ) (f : X → List ℕ) (g : List ℕ → X) (xs : List X) (rest : List ℕ) → All (λ x. (length (f x) ≡ width) × (g (f x) ≡ x)) xs → map g (pieces width (length xs) (flat_map f xs ++ rest)) ≡ xs
+pub pieces_joined : {X : Type 0} (width : ℕ) (f : X → List ℕ) (g : List ℕ → X) (xs : List X) (rest : List ℕ) → AllByRecursion (λ x. (length (f x) ≡ width) × (g (f x) ≡ x)) xs → map g (pieces width (length xs) (flat_map f xs ++ rest)) ≡ xs
 pieces_joined width f g [] rest h = refl
 pieces_joined width f g (x ∷ xs) rest h =
     let whole : (f x ++ flat_map f xs) ++ rest ≡ f x ++ (flat_map f xs ++ rest) = append_assoc (f x) (flat_map f xs) rest in

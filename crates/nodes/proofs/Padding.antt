@@ -2,7 +2,7 @@
 use Rattle.std.proofs.Common.{◌≡◌, ℕ, zero, suc, ◌+◌, ◌-◌, ◌*◌, ◌/◌, ◌%◌, ◌^◌, ◌<◌, ◌≤◌, Bool, true, false, cond, leb, List, [], ◌∷◌, ◌++◌, map, length, get_or, take, drop, replicate, sym, refl, ap, ◌∙◌, subst, mul-zero, mul-suc, add-one, arith, le-leb}
 use native.Mathlib.Nat.{div-div-eq-div-mul, sub-zero}
 use Rattle.std.proofs.lemmas.List.{length-append, length-replicate, append_assoc, append-nil, take_at, drop_at, drop-drop, drop-replicate, replicate-append-replicate, length-take-le, take_more, nil_from_length, length_push, length-drop}
-use Rattle.std.specs.List.{flat_map, AllByRecursion as All}
+use Rattle.std.specs.List.{flat_map, AllByRecursion}
 use Rattle.numbers.specs.BigEndian.{Bytes, bytes_of, written}
 use Rattle.numbers.proofs.Spelling.{length_bytes_of, bytes_bytes_of}
 use Rattle.nodes.specs.Layout.{padded}
@@ -99,14 +99,14 @@ unfolding padded
 bytes_padded size xs h = bytes_append xs (replicate (size - length xs) 0) h (bytes_zeros (size - length xs))
 
 -- lists of one width each, joined
-pub length_joined : {X : Type 0} (width : ℕ) (f : X → List ℕ) (xs : List X) → All (λ x. length (f x) ≡ width) xs → length (flat_map f xs) ≡ width * length xs
+pub length_joined : {X : Type 0} (width : ℕ) (f : X → List ℕ) (xs : List X) → AllByRecursion (λ x. length (f x) ≡ width) xs → length (flat_map f xs) ≡ width * length xs
 length_joined width f [] h = sym (mul-zero width)
 length_joined width f (x ∷ xs) h =
     let ih = length_joined width f xs h.1 in
     let one = h.0 in
     length-append (f x) (flat_map f xs) ∙ omega (arith, mul-suc width (length xs))
 
-pub bytes_joined : {X : Type 0} (f : X → List ℕ) (xs : List X) → All (λ x. Bytes (f x)) xs → Bytes (flat_map f xs)
+pub bytes_joined : {X : Type 0} (f : X → List ℕ) (xs : List X) → AllByRecursion (λ x. Bytes (f x)) xs → Bytes (flat_map f xs)
 bytes_joined f [] h = tt
 bytes_joined f (x ∷ xs) h = bytes_append (f x) (flat_map f xs) h.0 (bytes_joined f xs h.1)
 
@@ -114,7 +114,7 @@ joined_push : {X : Type 0} (f : X → List ℕ) (xs : List X) (x : X) → flat_m
 joined_push f [] x = append-nil (f x)
 joined_push f (y ∷ xs) x = ap (λ (ys : List ℕ). f y ++ ys) (joined_push f xs x) ∙ sym (append_assoc (f y) (flat_map f xs) (f x))
 
-all_push : {X : Type 0} (P : X → Type 0) (xs : List X) (x : X) → All P xs → P x → All P (xs ++ (x ∷ []))
+all_push : {X : Type 0} (P : X → Type 0) (xs : List X) (x : X) → AllByRecursion P xs → P x → AllByRecursion P (xs ++ (x ∷ []))
 all_push P [] x h k = (k, tt)
 all_push P (y ∷ xs) x h k = (h.0, all_push P xs x h.1 k)
 
@@ -123,7 +123,7 @@ pub record Filled {X : Type 0} (size at width : ℕ) (front : List ℕ) (f : X �
   pub is : page ≡ padded size (front ++ flat_map f xs)
   pub count : length front + width * length xs ≤ size
   pub long : length (flat_map f xs) ≡ width * length xs
-  pub fits : All Fits xs
+  pub fits : AllByRecursion Fits xs
   pub whole : length page ≡ size
 
 whole_page : (size : ℕ) (front pieces page : List ℕ) → page ≡ padded size (front ++ pieces) → length front + length pieces ≤ size → length page ≡ size

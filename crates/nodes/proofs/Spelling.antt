@@ -1,7 +1,7 @@
 -- Each image is a page, and what stands in it is the value that it is the image of. Assumes nothing.
 use Rattle.std.proofs.Common.{◌≡◌, ℕ, zero, suc, ◌+◌, ◌-◌, ◌*◌, ◌^◌, ◌<◌, ◌≤◌, min, max, Bool, true, false, cond, List, [], ◌∷◌, ◌++◌, map, length, get_or, take, drop, replicate, Some, None, Decides, Option, sym, refl, ap, ◌∙◌, subst, arith, lit<, lit≤, MatchOption}
 use Rattle.std.proofs.lemmas.List.{append_assoc, append-nil, take_at, take_all, drop_at, length-append}
-use Rattle.std.specs.List.{flat_map, AllByRecursion as All}
+use Rattle.std.specs.List.{flat_map, AllByRecursion}
 use Rattle.numbers.specs.BigEndian.{number_of, bytes_of, Bytes, part, number_at}
 use Rattle.numbers.proofs.Spelling.{length_bytes_of, bytes_bytes_of, number_bytes_of}
 use Rattle.nodes.specs.declared.sort.PageSort.{PageSort}
@@ -13,7 +13,7 @@ use Rattle.nodes.specs.Codec.{Spells, Decoded, Encoded}
 use Rattle.nodes.proofs.Padding.{length_padded, padded_append, bytes_append, bytes_padded, length_joined, bytes_joined}
 use Rattle.nodes.proofs.Cutting.{pieces_joined, number_there}
 
-map_all : {X : Type 0} (P Q : X → Type 0) (xs : List X) → ((x : X) → P x → Q x) → All P xs → All Q xs
+map_all : {X : Type 0} (P Q : X → Type 0) (xs : List X) → ((x : X) → P x → Q x) → AllByRecursion P xs → AllByRecursion Q xs
 map_all P Q [] f h = tt
 map_all P Q (x ∷ xs) f h = (f x h.0, map_all P Q xs f h.1)
 
@@ -101,7 +101,7 @@ module _ (sort : PageSort) (count next : ℕ) (rest : List ℕ) where
   bytes_page h = bytes_padded 512 (front_bytes sort count next ++ rest) (bytes_append (front_bytes sort count next) rest (bytes_front sort count next) h)
 
 -- so many pieces of one width, cut out of what was padded
-padded_pieces : {X : Type 0} (width size count : ℕ) (f : X → List ℕ) (g : List ℕ → X) (xs : List X) (bytes : List ℕ) → All (λ x. (length (f x) ≡ width) × (g (f x) ≡ x)) xs → count ≡ length xs → bytes ≡ padded size (flat_map f xs) → map g (pieces width count bytes) ≡ xs
+padded_pieces : {X : Type 0} (width size count : ℕ) (f : X → List ℕ) (g : List ℕ → X) (xs : List X) (bytes : List ℕ) → AllByRecursion (λ x. (length (f x) ≡ width) × (g (f x) ≡ x)) xs → count ≡ length xs → bytes ≡ padded size (flat_map f xs) → map g (pieces width count bytes) ≡ xs
 unfolding padded
 padded_pieces width size count f g xs bytes h c e =
     ap (λ (n : ℕ). map g (pieces width n bytes)) c
@@ -111,7 +111,7 @@ padded_pieces width size count f g xs bytes h c e =
 posting_back : (n : ℕ) → n < 2 ^ 64 → (length (bytes_of 8 n) ≡ 8) × (number_of (bytes_of 8 n) ≡ n)
 posting_back n h = (refl, number_bytes_of 8 n h)
 
-postings_back : (ns : List ℕ) → All (λ n. n < 2 ^ 64) ns → All (λ n. (length (bytes_of 8 n) ≡ 8) × (number_of (bytes_of 8 n) ≡ n)) ns
+postings_back : (ns : List ℕ) → AllByRecursion (λ n. n < 2 ^ 64) ns → AllByRecursion (λ n. (length (bytes_of 8 n) ≡ 8) × (number_of (bytes_of 8 n) ≡ n)) ns
 postings_back ns h = map_all (λ n. n < 2 ^ 64) (λ n. (length (bytes_of 8 n) ≡ 8) × (number_of (bytes_of 8 n) ≡ n)) ns posting_back h
 
 pub length_postings : (ns : List ℕ) → length (flat_map (bytes_of 8) ns) ≡ 8 * length ns

@@ -5,7 +5,7 @@ use Rattle.nodes.specs.declared.sort.PageSort.{PageSort}
 use Rattle.nodes.specs.declared.sort.PageSort.TheVariants.{Header, Inner, Leaf, Record}
 use Rattle.nodes.specs.Sorts.{sort_number}
 use Rattle.std.proofs.lemmas.List.{append_assoc, length-append, length-take-le, get_or-map}
-use Rattle.std.specs.List.{flat_map, AllByRecursion as All}
+use Rattle.std.specs.List.{flat_map, AllByRecursion}
 use Rattle.nodes.specs.Layout.{padded, front_bytes, HeaderPage, header_image, InnerRow, row_bytes, RowFits, inner_image, InnerFits, entry_bytes, LeafEntry, EntryFits, leaf_image, LeafFits, record_image, RecordFits}
 use Rattle.nodes.specs.Codec.{Spells}
 use Rattle.nodes.proofs.Padding.{padded_padded, padded_append, padded_full, length_padded, step_on, blank, Filled, filled_start}

@@ -1,6 +1,6 @@
 -- What a page of each sort is: a function from a value to 512 bytes, and which values fit.
 use Rattle.std.specs.Prelude.{◌≡◌, ℕ, ◌+◌, ◌-◌, ◌^◌, ◌<◌, ◌≤◌, List, [], ◌∷◌, ◌++◌, length, replicate}
-use Rattle.std.specs.List.{flat_map, AllByRecursion as All}
+use Rattle.std.specs.List.{flat_map, AllByRecursion}
 use Rattle.numbers.specs.BigEndian.{bytes_of, Bytes}
 use Rattle.nodes.specs.declared.sort.PageSort.{PageSort}
 use Rattle.nodes.specs.declared.sort.PageSort.TheVariants.{Header, Inner, Leaf, Record, Free}
@@ -94,26 +94,26 @@ pub record RowFits (row : InnerRow) : Type 0 where
 pub record InnerFits (v : InnerPage) : Type 0 where
   pub first_fits : v.first < 2 ^ 32
   pub at_most_15_rows : length v.rows ≤ 15
-  pub each_row_fits : All RowFits v.rows
+  pub each_row_fits : AllByRecursion RowFits v.rows
 
 pub record EntryFits (e : LeafEntry) : Type 0 where
   pub key_is_24_bytes : length e.key ≡ 24
   pub key_holds_bytes : Bytes e.key
   pub at_most_3_inline : length e.inline ≤ 3
-  pub each_inline_fits : All (λ n. n < 2 ^ 64) e.inline
+  pub each_inline_fits : AllByRecursion (λ n. n < 2 ^ 64) e.inline
   pub head_fits : e.head < 2 ^ 32
   pub chained_fits : e.chained < 2 ^ 32
 
 pub record LeafFits (v : LeafPage) : Type 0 where
   pub next_fits : v.next < 2 ^ 32
   pub at_most_8_entries : length v.entries ≤ 8
-  pub each_entry_fits : All EntryFits v.entries
+  pub each_entry_fits : AllByRecursion EntryFits v.entries
 
 pub record RecordFits (v : RecordPage) : Type 0 where
   pub next_fits : v.next < 2 ^ 32
   pub has_a_posting : 0 < length v.postings
   pub at_most_60_postings : length v.postings ≤ 60
-  pub each_posting_fits : All (λ n. n < 2 ^ 64) v.postings
+  pub each_posting_fits : AllByRecursion (λ n. n < 2 ^ 64) v.postings
 
 pub record FreeFits (v : FreePage) : Type 0 where
   pub next_fits : v.next < 2 ^ 32

@@ -1,7 +1,7 @@
 -- Unsigned numbers in bytes, the most significant byte first.
 use Rattle.std.specs.Prelude.{◌≡◌, ℕ, zero, suc, ◌+◌, ◌*◌, ◌/◌, ◌%◌, ◌^◌, ◌<◌, ◌≤◌, Bool, true, false, cond, List, [], ◌∷◌, ◌++◌, length, take, drop, nat_le}
 use Rattle.std.specs.Int.Digits.{number_from_digits}
-use Rattle.std.specs.List.{AllByRecursion as All}
+use Rattle.std.specs.List.{AllByRecursion}
 
 -- the number that bytes write
 abbrev pub number_of : List ℕ → ℕ
@@ -14,7 +14,7 @@ bytes_of (suc width) n = bytes_of width (n / 256) ++ (n % 256 ∷ [])
 
 -- each a byte
 abbrev pub Bytes : List ℕ → Type 0
-Bytes xs = All (λ x. x < 256) xs
+Bytes xs = AllByRecursion (λ x. x < 256) xs
 
 -- so many bytes from a place on
 abbrev pub part : (at width : ℕ) → List ℕ → List ℕ

@@ -1,6 +1,6 @@
 -- The lines of a batch, one by one, and the merge that they make.
 use Rattle.std.proofs.Common.{◌≡◌, ℕ, zero, suc, ◌+◌, ◌-◌, ◌<◌, ◌≤◌, Bool, true, false, cond, List, [], ◌∷◌, ◌++◌, map, length, get_or, take, drop, Some, None, Option, sym, refl, ap, ◌∙◌, subst, arith}
-use Rattle.std.specs.List.{slice_get, flat_map, AllByRecursion as All}
+use Rattle.std.specs.List.{slice_get, flat_map, AllByRecursion}
 use Rattle.std.proofs.lemmas.List.{append-nil, length-append, length-map, take_more, take_all, drop_more, drop_all, get_or_append_left, get_or-append_right, get_or-map}
 use Rattle.std.proofs.ByRecursion.{All-weaker}
 use Rattle.refusals.specs.Refusals.{Answer, Accepted, Refused, and_then, is_accepted}
@@ -109,7 +109,7 @@ posting_end bs j h = ap posting_lines (drop_all j bs h)
 
 -- in a sorted book the lines are judged and taken as said
 abbrev LawfulKeys : Kind → List Booking → Type 0
-LawfulKeys kind bs = All (λ (b : Booking). kind.lawful b.key ≡ true) bs
+LawfulKeys kind bs = AllByRecursion (λ (b : Booking). kind.lawful b.key ≡ true) bs
 
 found_lines : (kind : Kind) (at : ℕ) (bs : List Booking) (list : Entries) → LawfulKeys kind bs → Sorted kind list → found_answers kind at bs list ≡ lines_answer kind paged at bs list
 found_lines kind at [] list l s = refl

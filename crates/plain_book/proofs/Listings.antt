@@ -1,6 +1,6 @@
 -- The rows of a listing as the executable book finds and cuts them.
 use Rattle.std.proofs.Common.{◌≡◌, ℕ, ◌+◌, ◌-◌, ◌*◌, ◌/◌, ◌<◌, ◌≤◌, min, Bool, true, false, cond, not, ◌&&◌, ◌⊎◌, List, [], ◌∷◌, ◌++◌, map, length, get_or, take, drop, set, Some, None, filter, Option, sym, refl, ap, ◌∙◌, inl, inr, arith}
-use Rattle.std.specs.List.{flat_map, AllByRecursion as All}
+use Rattle.std.specs.List.{flat_map, AllByRecursion}
 use Rattle.std.proofs.lemmas.List.{append_assoc, append-nil, length-append, length-take, length-drop, take_more, take_all, take_at, drop_at, drop_all, take-append-drop, get_or-drop}
 use Rattle.std.proofs.lemmas.List.Elements.{filter-append}
 use Rattle.std.proofs.ByRecursion.{All-take, All-drop}
@@ -67,7 +67,7 @@ copy_all buffer before rows from size i e t d =
     sym (take-append-drop i buffer) ∙ (ap (λ (x : List ℕ). x ++ drop i buffer) t ∙ (ap (λ (x : List ℕ). take i (drop from rows) ++ x) d ∙ ap (λ (k : ℕ). take k (drop from rows) ++ drop k before) e))
 
 -- rows of 32 bytes, cut
-cut : (kind : Kind) (rows : List Listed) (k : ℕ) → All (LawfulRow kind) rows → k ≤ length rows → (take (32 * k) (flat_map listed_bytes rows) ≡ flat_map listed_bytes (take k rows)) × (drop (32 * k) (flat_map listed_bytes rows) ≡ flat_map listed_bytes (drop k rows))
+cut : (kind : Kind) (rows : List Listed) (k : ℕ) → AllByRecursion (LawfulRow kind) rows → k ≤ length rows → (take (32 * k) (flat_map listed_bytes rows) ≡ flat_map listed_bytes (take k rows)) × (drop (32 * k) (flat_map listed_bytes rows) ≡ flat_map listed_bytes (drop k rows))
 cut kind rows k a h =
     let front = flat_map listed_bytes (take k rows) in
     let back = flat_map listed_bytes (drop k rows) in
@@ -75,7 +75,7 @@ cut kind rows k a h =
     let long : length front ≡ 32 * k = length_rows kind (take k rows) (All-take (LawfulRow kind) k rows a) ∙ omega (arith, length-take k rows) in
     (ap (take (32 * k)) split ∙ take_at front back (32 * k) long, ap (drop (32 * k)) split ∙ drop_at front back (32 * k) long)
 
-cut_off : (kind : Kind) (rows : List Listed) (skip : ℕ) → All (LawfulRow kind) rows → drop (32 * skip) (flat_map listed_bytes rows) ≡ flat_map listed_bytes (drop skip rows)
+cut_off : (kind : Kind) (rows : List Listed) (skip : ℕ) → AllByRecursion (LawfulRow kind) rows → drop (32 * skip) (flat_map listed_bytes rows) ≡ flat_map listed_bytes (drop skip rows)
 cut_off kind rows skip a = go (cases_lt (length rows) skip)
   where
     go : (length rows < skip) ⊎ (skip ≤ length rows) → drop (32 * skip) (flat_map listed_bytes rows) ≡ flat_map listed_bytes (drop skip rows)
@@ -109,7 +109,7 @@ module _ (kind : Kind) (entries : Entries) (first second : Field) (skip : ℕ) (
   abbrev rows : List Listed
   rows = listed kind (book_of entries) first second
 
-  lawful : All (LawfulRow kind) rows
+  lawful : AllByRecursion (LawfulRow kind) rows
   lawful = lawful_listed kind None (book_of entries) (λ (h : Held (List ℕ)). within kind first second h.key) (sorted_spelled kind None entries sorted)
 
   abbrev shows : List Listed

@@ -1,6 +1,6 @@
 -- The image is a valid tree of height 2. Assumes nothing.
 use Rattle.std.proofs.Common.{◌≡◌, ℕ, zero, suc, true, List, [], ◌∷◌, length, get_or, refl, subst, lit≤}
-use Rattle.std.specs.List.{AllByRecursion as All}
+use Rattle.std.specs.List.{AllByRecursion}
 use Rattle.numbers.specs.BigEndian.{Bytes}
 use Rattle.page_store.specs.Meanings.{Page, Live, Gone, Sound}
 use Rattle.nodes.specs.Layout.{HeaderPage, InnerPage, LeafPage, RecordPage, FreePage, header_image, inner_image, leaf_image, record_image, free_image, HeaderFits, InnerFits, LeafFits, RecordFits, FreeFits}
@@ -100,7 +100,7 @@ Whole Gone = Unit {0}
 live_whole : (page : Page) (bytes : List ℕ) → page ≡ Live bytes → Whole page → (length bytes ≡ 512) × Bytes bytes
 live_whole page bytes e whole = subst Whole e whole
 
-there_whole : (pages : Pages) (n : ℕ) → All Whole pages → Whole (get_or pages n Gone)
+there_whole : (pages : Pages) (n : ℕ) → AllByRecursion Whole pages → Whole (get_or pages n Gone)
 there_whole [] n all = tt
 there_whole (page ∷ pages) zero all = all.0
 there_whole (page ∷ pages) (suc n) all = there_whole pages n all.1
@@ -123,7 +123,7 @@ whole_record v e = whole record_image RecordFits v (record_spells (record_image 
 whole_free : (v : FreePage) → link_fits v.next ≡ true → Whole (Live (free_image v))
 whole_free v e = whole free_image FreeFits v (free_spells (free_image v) v (free_passes v e) refl)
 
-all_whole : All Whole image
+all_whole : AllByRecursion Whole image
 all_whole =
     let p0 = whole_header (made_header 1 2 4 9 3 8 10) refl in
     let p1 = whole_record (made_record 0 (12 ∷ 8 ∷ [])) refl in

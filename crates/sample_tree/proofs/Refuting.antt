@@ -3,7 +3,7 @@ use Rattle.std.proofs.Common.{◌≡◌, ℕ, zero, suc, ◌+◌, ◌<◌, ◌�
 use Rattle.std.proofs.ByRecursion.{All-append}
 use Rattle.std.proofs.lemmas.List.Sums.{sum_by-cons}
 use Rattle.std.proofs.lemmas.Bool.{eqb-true, eqb-false, leb-true, ltb-true, lt-ltb, cases_eq, cond-true}
-use Rattle.std.specs.List.{flat_map, AllByRecursion as All}
+use Rattle.std.specs.List.{flat_map, AllByRecursion}
 use Rattle.page_store.specs.Meanings.{Live, Gone}
 use Rattle.keys.specs.Kinds.{Kind}
 use Rattle.keys.specs.BuiltIn.{word_kind}
@@ -97,8 +97,8 @@ module _ {pages : Pages} {h : HeaderPage} {tree : Tree 1} (s : Shown pages h tre
   pub links_broken : (Linked (leaves_of 1 tree) → ⊥) → NotValid pages
   links_broken = broken (λ (t : TreeOfSomeHeight). Linked (leaves_of t.0 t.1)) (λ entries valid. valid.leaves_are_linked)
 
-  pub entries_broken : (All EntryFits (entries_of 1 tree) → ⊥) → NotValid pages
-  entries_broken = broken (λ (t : TreeOfSomeHeight). All EntryFits (entries_of t.0 t.1)) (λ entries valid. valid.entries_fit)
+  pub entries_broken : (AllByRecursion EntryFits (entries_of 1 tree) → ⊥) → NotValid pages
+  entries_broken = broken (λ (t : TreeOfSomeHeight). AllByRecursion EntryFits (entries_of t.0 t.1)) (λ entries valid. valid.entries_fit)
 
   pub keys_miscounted : (length (entries_of 1 tree) ≡ h.keys → ⊥) → NotValid pages
   keys_miscounted = broken (λ (t : TreeOfSomeHeight). length (entries_of t.0 t.1) ≡ h.keys) (λ entries valid. keys_are s.top valid)
@@ -241,7 +241,7 @@ module _ {pages : Pages} {h : HeaderPage} (top : Headed pages h) {entries : Entr
       first_child pages valid.levels valid.tree m v h.root (let e = height_is top valid in omega arith) (root_is top valid) (nodes_fit_pages word_kind pages entries valid top.few) valid.nodes_are_spelled (inner_passes v small) there
 
 -- the chain of a leaf's first entry
-first_chain : (pages : Pages) (entries : List EntryAt) (e : LeafEntry) (es : List LeafEntry) → map entry_in entries ≡ e ∷ es → All (λ (entry : EntryAt). ChainFits entry.records) entries → All (λ (entry : EntryAt). SpellChain pages entry.records) entries → ((records : List RecordAt) → ChainFrom pages e.head e.chained records → ⊥) → ⊥
+first_chain : (pages : Pages) (entries : List EntryAt) (e : LeafEntry) (es : List LeafEntry) → map entry_in entries ≡ e ∷ es → AllByRecursion (λ (entry : EntryAt). ChainFits entry.records) entries → AllByRecursion (λ (entry : EntryAt). SpellChain pages entry.records) entries → ((records : List RecordAt) → ChainFrom pages e.head e.chained records → ⊥) → ⊥
 first_chain pages [] e es same fit spelled on = omega (arith, ap length same)
 first_chain pages (entry ∷ entries) e es same fit spelled on =
     let here : entry_in entry ≡ e = cc in
@@ -259,12 +259,12 @@ Kept pages page = get_or pages page Gone ≡ Gone → ⊥
 kept : (pages : Pages) (page : ℕ) (bytes : List ℕ) → Holds pages page bytes → Kept pages page
 kept pages page bytes there e = gone_not_live bytes (sym e ∙ there)
 
-all_joined : {X Y : Type 0} (P : Y → Type 0) (Q : X → Type 0) (f : X → List Y) → ((x : X) → Q x → All P (f x)) → (xs : List X) → All Q xs → All P (flat_map f xs)
+all_joined : {X Y : Type 0} (P : Y → Type 0) (Q : X → Type 0) (f : X → List Y) → ((x : X) → Q x → AllByRecursion P (f x)) → (xs : List X) → AllByRecursion Q xs → AllByRecursion P (flat_map f xs)
 all_joined P Q f each' [] all = tt
 all_joined P Q f each' (x ∷ xs) all = All-append P (f x) (flat_map f xs) (each' x all.0) (all_joined P Q f each' xs all.1)
 
 module _ (pages : Pages) where
-  nodes_kept : (levels : ℕ) (tree : Tree levels) → Spell pages levels tree → All (Kept pages) (node_pages levels tree)
+  nodes_kept : (levels : ℕ) (tree : Tree levels) → Spell pages levels tree → AllByRecursion (Kept pages) (node_pages levels tree)
   nodes_kept zero leaf spelled = (kept pages leaf.page (leaf_image (leaf_page leaf)) spelled.0, tt)
   nodes_kept (suc levels) node spelled = (
     kept pages node.page (inner_image (inner_page levels node)) spelled.0,
@@ -273,28 +273,28 @@ module _ (pages : Pages) where
         (all_joined (Kept pages) (λ (branch : Branch (Tree levels)). Spell pages levels branch.child) (λ (branch : Branch (Tree levels)). node_pages levels branch.child) (λ branch h. nodes_kept levels branch.child h) node.rest spelled.2),
   )
 
-  leaves_spelled : (levels : ℕ) (tree : Tree levels) → Spell pages levels tree → All (SpellLeaf pages) (leaves_of levels tree)
+  leaves_spelled : (levels : ℕ) (tree : Tree levels) → Spell pages levels tree → AllByRecursion (SpellLeaf pages) (leaves_of levels tree)
   leaves_spelled zero leaf spelled = (spelled, tt)
   leaves_spelled (suc levels) node spelled =
       All-append (SpellLeaf pages) (leaves_of levels node.first) (flat_map (λ (branch : Branch (Tree levels)). leaves_of levels branch.child) node.rest)
       (leaves_spelled levels node.first spelled.1)
       (all_joined (SpellLeaf pages) (λ (branch : Branch (Tree levels)). Spell pages levels branch.child) (λ (branch : Branch (Tree levels)). leaves_of levels branch.child) (λ branch h. leaves_spelled levels branch.child h) node.rest spelled.2)
 
-  chain_kept : (records : List RecordAt) → SpellChain pages records → All (Kept pages) (map (λ (r : RecordAt). r.page) records)
+  chain_kept : (records : List RecordAt) → SpellChain pages records → AllByRecursion (Kept pages) (map (λ (r : RecordAt). r.page) records)
   chain_kept [] spelled = tt
   chain_kept (r ∷ rest) spelled = (kept pages r.page (record_image (record_page r rest)) spelled.0, chain_kept rest spelled.1)
 
-  records_kept : (levels : ℕ) (tree : Tree levels) → Spell pages levels tree → All (Kept pages) (record_pages levels tree)
+  records_kept : (levels : ℕ) (tree : Tree levels) → Spell pages levels tree → AllByRecursion (Kept pages) (record_pages levels tree)
   records_kept levels tree spelled =
       let Chained : EntryAt → Type 0 = λ (entry : EntryAt). SpellChain pages entry.records in
       all_joined (Kept pages) Chained chain_pages (λ entry h. chain_kept entry.records h) (entries_of levels tree)
       (all_joined Chained (SpellLeaf pages) (λ (leaf : Leaf). leaf.entries) (λ leaf h. h.1) (leaves_of levels tree) (leaves_spelled levels tree spelled))
 
-  free_kept : (free : List ℕ) → SpellFree pages free → All (Kept pages) free
+  free_kept : (free : List ℕ) → SpellFree pages free → AllByRecursion (Kept pages) free
   free_kept [] spelled = tt
   free_kept (page ∷ rest) spelled = (kept pages page (free_image (made_free (next_free rest))) spelled.0, free_kept rest spelled.1)
 
-all_at : (P : ℕ → Type 0) (list : List ℕ) (n : ℕ) → All P list → 1 ≤ count n list → P n
+all_at : (P : ℕ → Type 0) (list : List ℕ) (n : ℕ) → AllByRecursion P list → 1 ≤ count n list → P n
 all_at P [] n all some = absurd (omega arith)
 all_at P (m ∷ ms) n all some = go (cases_eq n m) (λ more. all_at P ms n all.1 more)
   where

@@ -1,7 +1,7 @@
 -- Tests that compute, and what they show: that values fit their pages, that entries keep their rules, that a list counts each number once. Assumes nothing.
 use Rattle.std.proofs.Common.{◌≡◌, ℕ, zero, suc, ◌^◌, ◌<◌, ◌≤◌, Bool, true, cond, ◌&&◌, eqb, ltb, leb, ◌⊎◌, List, [], ◌∷◌, length, sym, refl, ap, ◌∙◌, inl, inr, arith}
 use Rattle.std.proofs.lemmas.Bool.{and_parts, ltb-true, leb-true, eqb-true, cases_eq, cases_lt, lt-ltb, le-ltb, cond-true, cond-false}
-use Rattle.std.specs.List.{AllByRecursion as All}
+use Rattle.std.specs.List.{AllByRecursion}
 use Rattle.book.specs.Books.{count, PostingNumber}
 use Rattle.book.proofs.Counting.{one_same, one_other}
 use Rattle.numbers.specs.BigEndian.{Bytes}
@@ -16,14 +16,14 @@ abbrev every : {X : Type 0} → (X → Bool) → List X → Bool
 every test [] = true
 every test (x ∷ xs) = test x && every test xs
 
-every_all : {X : Type 0} (test : X → Bool) (P : X → Type 0) → ((x : X) → test x ≡ true → P x) → (xs : List X) → every test xs ≡ true → All P xs
+every_all : {X : Type 0} (test : X → Bool) (P : X → Type 0) → ((x : X) → test x ≡ true → P x) → (xs : List X) → every test xs ≡ true → AllByRecursion P xs
 every_all test P shows [] e = tt
 every_all test P shows (x ∷ xs) e = let p = and_parts (test x) (every test xs) e in (shows x p.0, every_all test P shows xs p.1)
 
 abbrev pub passed : List Bool → Bool
 passed tests = every (λ (test : Bool). test) tests
 
-pub each : (tests : List Bool) → passed tests ≡ true → All (λ (test : Bool). test ≡ true) tests
+pub each : (tests : List Bool) → passed tests ≡ true → AllByRecursion (λ (test : Bool). test ≡ true) tests
 each tests e = every_all (λ (test : Bool). test) (λ (test : Bool). test ≡ true) (λ test h. h) tests e
 
 -- values fit their pages
@@ -36,7 +36,7 @@ link_fits n = ltb n (2 ^ 32)
 link_fits_below : (n : ℕ) → link_fits n ≡ true → n < 2 ^ 32
 link_fits_below n e = ltb-true n (2 ^ 32) e
 
-numbers_fit : (ns : List ℕ) → every number_fits ns ≡ true → All (λ n. n < 2 ^ 64) ns
+numbers_fit : (ns : List ℕ) → every number_fits ns ≡ true → AllByRecursion (λ n. n < 2 ^ 64) ns
 numbers_fit ns e = every_all number_fits (λ n. n < 2 ^ 64) (λ n h. ltb-true n (2 ^ 64) h) ns e
 
 bytes_fit : (bytes : List ℕ) → every (λ b. ltb b 256) bytes ≡ true → Bytes bytes
@@ -188,7 +188,7 @@ once_below_counts (suc bound) list e n h =
         go (inl same) = ap (λ (j : ℕ). count j l) same ∙ last
         go (inr other) = below (omega arith)
 
-none_past : (bound : ℕ) (list : List ℕ) → All (λ m. m < bound) list → (n : ℕ) → bound ≤ n → count n list ≡ 0
+none_past : (bound : ℕ) (list : List ℕ) → AllByRecursion (λ m. m < bound) list → (n : ℕ) → bound ≤ n → count n list ≡ 0
 none_past bound [] small n h = refl
 none_past bound (m ∷ ms) small n h = let ih = none_past bound ms small.1 n h in let here = small.0 in omega (arith, one_other n m (λ e. omega arith))
 
@@ -198,10 +198,10 @@ once_tests bound list = once_below bound list ∷ every (λ m. ltb m bound) list
 pub each_once : (bound : ℕ) (list : List ℕ) → passed (once_tests bound list) ≡ true → (n : ℕ) → count n list ≡ cond (ltb n bound) 1 0
 each_once bound list e n = go (cases_lt n bound)
   where
-    p : All (λ (test : Bool). test ≡ true) (once_tests bound list)
+    p : AllByRecursion (λ (test : Bool). test ≡ true) (once_tests bound list)
     p = each (once_tests bound list) e
 
-    small : All (λ m. m < bound) list
+    small : AllByRecursion (λ m. m < bound) list
     small = every_all (λ m. ltb m bound) (λ m. m < bound) (λ m h. ltb-true m bound h) list p.1.0
 
     go : (n < bound) ⊎ (bound ≤ n) → count n list ≡ cond (ltb n bound) 1 0
@@ -237,5 +237,5 @@ entry_keeps entry e =
       are_posting_numbers = every_all is_posting PostingNumber is_posting_number (postings_at entry) p.1.1.1.1.0;
     }
 
-pub entries_keep : (entries : List EntryAt) → every (λ (entry : EntryAt). passed (keeps_tests entry)) entries ≡ true → All EntryFits entries
+pub entries_keep : (entries : List EntryAt) → every (λ (entry : EntryAt). passed (keeps_tests entry)) entries ≡ true → AllByRecursion EntryFits entries
 entries_keep entries e = every_all (λ (entry : EntryAt). passed (keeps_tests entry)) EntryFits entry_keeps entries e

@@ -1,6 +1,6 @@
 -- The child for a key, row by row. Assumes nothing.
 use Rattle.std.proofs.Common.{◌≡◌, ℕ, zero, suc, ◌+◌, ◌<◌, ◌≤◌, Bool, true, false, cond, ◌&&◌, List, [], ◌∷◌, ◌++◌, map, length, get_or, take, drop, Some, None, Option, sym, refl, ap, ◌∙◌, subst, add-one, arith, drop-cons}
-use Rattle.std.specs.List.{flat_map, AllByRecursion as All}
+use Rattle.std.specs.List.{flat_map, AllByRecursion}
 use Rattle.std.proofs.lemmas.List.{length-map, length-take-le, get_or-take, get_or-map, drop_all}
 use Rattle.keys.specs.Kinds.{Kind, Field, below}
 use Rattle.nodes.specs.declared.row.ChildRow.{ChildRow}
@@ -21,7 +21,7 @@ taken_there f xs count i d h fits =
 pub length_taken : {X Y : Type 0} (f : X → Y) (xs : List X) (count : ℕ) → count ≤ length xs → length (map f (take count xs)) ≡ count
 length_taken f xs count fits = length-map (take count xs) f ∙ length-take-le count xs fits
 
-pub all_there : {Y : Type 0} (P : Y → Type 0) (ys rest : List Y) (i : ℕ) (y : Y) → All P ys → drop i ys ≡ y ∷ rest → P y
+pub all_there : {Y : Type 0} (P : Y → Type 0) (ys rest : List Y) (i : ℕ) (y : Y) → AllByRecursion P ys → drop i ys ≡ y ∷ rest → P y
 all_there P [] rest zero y all e = absurd (let z : ◌≡◌ {A = ℕ} 0 1 = cc in omega arith)
 all_there P [] rest (suc i) y all e = absurd (let z : ◌≡◌ {A = ℕ} 0 1 = cc in omega arith)
 all_there P (x ∷ xs) rest zero y all e = let same : x ≡ y = cc in subst P same all.0
@@ -29,7 +29,7 @@ all_there P (x ∷ xs) rest (suc i) y all e = all_there P xs rest i y all.1 e
 
 -- the first rows are passed: what is left to choose from has the child chosen so far in front
 pub record Chosen (kind : Kind) (key : Field) (node : InnerPage) (i child : ℕ) : Type 0 where
-  pub as_from_the_start : kind.lawful key ≡ true → All (λ (row : InnerRow). kind.lawful row.key ≡ true) node.rows
+  pub as_from_the_start : kind.lawful key ≡ true → AllByRecursion (λ (row : InnerRow). kind.lawful row.key ≡ true) node.rows
       → child_for kind key child (drop i node.rows) ≡ child_for kind key node.first node.rows
 
 pub chosen_none : (kind : Kind) (key : Field) (node : InnerPage) → Chosen kind key node 0 node.first
@@ -40,16 +40,16 @@ both_true true b e f = f
 both_true false b e f = absurd (let z : ◌≡◌ {A = ℕ} 0 1 = cc in omega arith)
 
 module _ (kind : Kind) (key : Field) (node : InnerPage) (i child : ℕ) (row : InnerRow) (chosen : Chosen kind key node i child) (there : drop i node.rows ≡ row ∷ drop (i + 1) node.rows) (answer : Option Bool) (asked : answer ≡ cond (kind.lawful key && kind.lawful row.key) (Some (below kind key row.key)) None) where
-  answered : kind.lawful key ≡ true → All (λ (row : InnerRow). kind.lawful row.key ≡ true) node.rows → answer ≡ Some (below kind key row.key)
+  answered : kind.lawful key ≡ true → AllByRecursion (λ (row : InnerRow). kind.lawful row.key ≡ true) node.rows → answer ≡ Some (below kind key row.key)
   answered lk all = asked ∙ rw (both_true (kind.lawful key) (kind.lawful row.key) lk (all_there (λ (row : InnerRow). kind.lawful row.key ≡ true) node.rows (drop (i + 1) node.rows) i row all there))
 
-  opened : kind.lawful key ≡ true → All (λ (row : InnerRow). kind.lawful row.key ≡ true) node.rows → cond (below kind key row.key) child (child_for kind key row.child (drop (i + 1) node.rows)) ≡ child_for kind key node.first node.rows
+  opened : kind.lawful key ≡ true → AllByRecursion (λ (row : InnerRow). kind.lawful row.key ≡ true) node.rows → cond (below kind key row.key) child (child_for kind key row.child (drop (i + 1) node.rows)) ≡ child_for kind key node.first node.rows
   opened lk all = ap (child_for kind key child) (sym there) ∙ chosen.as_from_the_start lk all
 
-  pub never_unanswered : answer ≡ None → kind.lawful key ≡ true → All (λ (row : InnerRow). kind.lawful row.key ≡ true) node.rows → ⊥
+  pub never_unanswered : answer ≡ None → kind.lawful key ≡ true → AllByRecursion (λ (row : InnerRow). kind.lawful row.key ≡ true) node.rows → ⊥
   never_unanswered e lk all = let f : Some (below kind key row.key) ≡ None = sym (answered lk all) ∙ e in let z : ◌≡◌ {A = ℕ} 0 1 = cc in omega arith
 
-  pub stops : answer ≡ Some true → kind.lawful key ≡ true → All (λ (row : InnerRow). kind.lawful row.key ≡ true) node.rows → child ≡ child_for kind key node.first node.rows
+  pub stops : answer ≡ Some true → kind.lawful key ≡ true → AllByRecursion (λ (row : InnerRow). kind.lawful row.key ≡ true) node.rows → child ≡ child_for kind key node.first node.rows
   stops e lk all =
       let f : Some (below kind key row.key) ≡ Some true = sym (answered lk all) ∙ e in
       let is : below kind key row.key ≡ true = cc in
@@ -64,5 +64,5 @@ module _ (kind : Kind) (key : Field) (node : InnerPage) (i child : ℕ) (row : I
             sym (ap (λ b. cond b child (child_for kind key row.child (drop (i + 1) node.rows))) is) ∙ opened lk all;
       }
 
-pub ends : (kind : Kind) (key : Field) (node : InnerPage) (i child : ℕ) → Chosen kind key node i child → length node.rows ≤ i → kind.lawful key ≡ true → All (λ (row : InnerRow). kind.lawful row.key ≡ true) node.rows → child ≡ child_for kind key node.first node.rows
+pub ends : (kind : Kind) (key : Field) (node : InnerPage) (i child : ℕ) → Chosen kind key node i child → length node.rows ≤ i → kind.lawful key ≡ true → AllByRecursion (λ (row : InnerRow). kind.lawful row.key ≡ true) node.rows → child ≡ child_for kind key node.first node.rows
 ends kind key node i child chosen past lk all = ap (child_for kind key child) (sym (drop_all i node.rows past)) ∙ chosen.as_from_the_start lk all

@@ -1,6 +1,6 @@
 -- The way down a valid tree, level by level. Assumes nothing.
 use Rattle.std.proofs.Common.{◌≡◌, ℕ, zero, suc, ◌+◌, ◌<◌, ◌≤◌, Bool, true, false, List, [], ◌∷◌, ◌++◌, map, length, Some, None, Option, sym, refl, ap, ◌∙◌, subst, append_assoc, append-nil, arith}
-use Rattle.std.specs.List.{flat_map, AllByRecursion as All}
+use Rattle.std.specs.List.{flat_map, AllByRecursion}
 use Rattle.std.proofs.ByRecursion.{All-append}
 use Rattle.page_store.specs.Meanings.{Meaning, Live, count_of, page_at}
 use Rattle.keys.specs.Kinds.{Kind, Field, below}
@@ -21,17 +21,17 @@ use Rattle.searching.proofs.Picking.{all_keys, rows_for, LawfulKeys, Picked, pic
 
 -- every key of an ordered tree is lawful
 module _ (kind : Kind) where
-  others_lawful : (levels : ℕ) (rest : List (Branch (Tree levels))) → All (λ (branch : Branch (Tree levels)). All (λ k. kind.lawful k ≡ true) (keys_of levels branch.child)) rest → All (λ k. kind.lawful k ≡ true) (keys_in (flat_map (λ (branch : Branch (Tree levels)). leaves_of levels branch.child) rest))
+  others_lawful : (levels : ℕ) (rest : List (Branch (Tree levels))) → AllByRecursion (λ (branch : Branch (Tree levels)). AllByRecursion (λ k. kind.lawful k ≡ true) (keys_of levels branch.child)) rest → AllByRecursion (λ k. kind.lawful k ≡ true) (keys_in (flat_map (λ (branch : Branch (Tree levels)). leaves_of levels branch.child) rest))
   others_lawful levels [] all = tt
   others_lawful levels (b ∷ bs) all =
       all_keys (λ k. kind.lawful k ≡ true) (leaves_of levels b.child) (flat_map (λ (branch : Branch (Tree levels)). leaves_of levels branch.child) bs) all.0 (others_lawful levels bs all.1)
 
-  each_lawful : (levels : ℕ) (rest : List (Branch (Tree levels))) → ((tree : Tree levels) → Ordered kind levels tree → All (λ k. kind.lawful k ≡ true) (keys_of levels tree)) → All (λ (branch : Branch (Tree levels)). Ordered kind levels branch.child) rest → All (λ (branch : Branch (Tree levels)). All (λ k. kind.lawful k ≡ true) (keys_of levels branch.child)) rest
+  each_lawful : (levels : ℕ) (rest : List (Branch (Tree levels))) → ((tree : Tree levels) → Ordered kind levels tree → AllByRecursion (λ k. kind.lawful k ≡ true) (keys_of levels tree)) → AllByRecursion (λ (branch : Branch (Tree levels)). Ordered kind levels branch.child) rest → AllByRecursion (λ (branch : Branch (Tree levels)). AllByRecursion (λ k. kind.lawful k ≡ true) (keys_of levels branch.child)) rest
   each_lawful levels [] one all = tt
   each_lawful levels (b ∷ bs) one all = (one b.child all.0, each_lawful levels bs one all.1)
 
-  pub keys_lawful : (levels : ℕ) (tree : Tree levels) → Ordered kind levels tree → All (λ k. kind.lawful k ≡ true) (keys_of levels tree)
-  keys_lawful zero leaf ordered = subst (λ (es : List EntryAt). All (λ k. kind.lawful k ≡ true) (map (λ (entry : EntryAt). entry.key) es)) (sym (append-nil leaf.entries)) (rise_lawful kind None (map (λ (entry : EntryAt). entry.key) leaf.entries) ordered)
+  pub keys_lawful : (levels : ℕ) (tree : Tree levels) → Ordered kind levels tree → AllByRecursion (λ k. kind.lawful k ≡ true) (keys_of levels tree)
+  keys_lawful zero leaf ordered = subst (λ (es : List EntryAt). AllByRecursion (λ k. kind.lawful k ≡ true) (map (λ (entry : EntryAt). entry.key) es)) (sym (append-nil leaf.entries)) (rise_lawful kind None (map (λ (entry : EntryAt). entry.key) leaf.entries) ordered)
   keys_lawful (suc levels) node ordered =
       all_keys (λ k. kind.lawful k ≡ true) (leaves_of levels node.first) (flat_map (λ (branch : Branch (Tree levels)). leaves_of levels branch.child) node.rest)
       (keys_lawful levels node.first ordered.2) (others_lawful levels node.rest (each_lawful levels node.rest (keys_lawful levels) ordered.3))
@@ -46,8 +46,8 @@ pub record Way (kind : Kind) (pages : Pages) (key : Field) (all : List Leaf) (le
   pub left : List Leaf
   pub right : List Leaf
   pub among : all ≡ left ++ (leaves_of levels tree ++ right)
-  pub left_below : All (λ k. below kind k key ≡ true) (keys_in left)
-  pub right_above : All (λ k. below kind key k ≡ true) (keys_in right)
+  pub left_below : AllByRecursion (λ k. below kind k key ≡ true) (keys_in left)
+  pub right_above : AllByRecursion (λ k. below kind key k ≡ true) (keys_in right)
 
 pub way_from_the_root : (kind : Kind) (pages : Pages) (key : Field) (entries : Entries) (valid : Valid kind pages entries) → length pages ≤ 65536 → (page : ℕ) → page ≡ root_of valid.levels valid.tree → Way kind pages key (leaves_of valid.levels valid.tree) valid.levels page
 way_from_the_root kind pages key entries valid few page is =
@@ -70,11 +70,11 @@ pub record Whole (kind : Kind) (pages : Pages) (levels : ℕ) (tree : Tree level
   pub fits : NodesFit levels tree
   pub ordered : Ordered kind levels tree
 
-each_whole : (kind : Kind) (pages : Pages) (levels : ℕ) (rest : List (Branch (Tree levels))) → All (λ (b : Branch (Tree levels)). Spell pages levels b.child) rest → All (λ (b : Branch (Tree levels)). NodesFit levels b.child) rest → All (λ (b : Branch (Tree levels)). Ordered kind levels b.child) rest → All (λ (b : Branch (Tree levels)). Whole kind pages levels b.child) rest
+each_whole : (kind : Kind) (pages : Pages) (levels : ℕ) (rest : List (Branch (Tree levels))) → AllByRecursion (λ (b : Branch (Tree levels)). Spell pages levels b.child) rest → AllByRecursion (λ (b : Branch (Tree levels)). NodesFit levels b.child) rest → AllByRecursion (λ (b : Branch (Tree levels)). Ordered kind levels b.child) rest → AllByRecursion (λ (b : Branch (Tree levels)). Whole kind pages levels b.child) rest
 each_whole kind pages levels [] s f o = tt
 each_whole kind pages levels (b ∷ bs) s f o = (record { spelled = s.0; fits = f.0; ordered = o.0 }, each_whole kind pages levels bs s.1 f.1 o.1)
 
-separators_lawful : (kind : Kind) {X : Type 0} (root : X → ℕ) (rest : List (Branch X)) → All (λ k. kind.lawful k ≡ true) (map (λ (b : Branch X). b.key) rest) → All (λ (row : InnerRow). kind.lawful row.key ≡ true) (rows_for root rest)
+separators_lawful : (kind : Kind) {X : Type 0} (root : X → ℕ) (rest : List (Branch X)) → AllByRecursion (λ k. kind.lawful k ≡ true) (map (λ (b : Branch X). b.key) rest) → AllByRecursion (λ (row : InnerRow). kind.lawful row.key ≡ true) (rows_for root rest)
 separators_lawful kind root [] all = tt
 separators_lawful kind root (b ∷ bs) all = (all.0, separators_lawful kind root bs all.1)
 
@@ -86,8 +86,8 @@ module _ (kind : Kind) (m : Meaning) (key : Field) (all : List Leaf) (levels pag
   pub node_fits : InnerFits (inner_page levels way.tree)
   node_fits = way.fits.0
 
-  pub node_rows_lawful : (node : InnerNode) → inner_of node ≡ inner_page levels way.tree → All (λ (row : InnerRow). kind.lawful row.key ≡ true) (inner_of node).rows
-  node_rows_lawful node is = subst (λ (p : InnerPage). All (λ (row : InnerRow). kind.lawful row.key ≡ true) p.rows) (sym is) (separators_lawful kind (root_of levels) way.tree.rest (rise_lawful kind None (map (λ (b : Branch (Tree levels)). b.key) way.tree.rest) way.ordered.0))
+  pub node_rows_lawful : (node : InnerNode) → inner_of node ≡ inner_page levels way.tree → AllByRecursion (λ (row : InnerRow). kind.lawful row.key ≡ true) (inner_of node).rows
+  node_rows_lawful node is = subst (λ (p : InnerPage). AllByRecursion (λ (row : InnerRow). kind.lawful row.key ≡ true) p.rows) (sym is) (separators_lawful kind (root_of levels) way.tree.rest (rise_lawful kind None (map (λ (b : Branch (Tree levels)). b.key) way.tree.rest) way.ordered.0))
 
   pub picked_child : (lk : kind.lawful key ≡ true) → Picked kind key lk (Whole kind m.pages levels) (root_of levels) (leaves_of levels) way.tree.first way.tree.rest
   picked_child lk =

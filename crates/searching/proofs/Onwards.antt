@@ -1,6 +1,6 @@
 -- The loop of the way down: what it keeps, and where it ends. Assumes nothing.
 use Rattle.std.proofs.Common.{◌≡◌, ℕ, zero, suc, ◌+◌, ◌<◌, ◌≤◌, Bool, true, false, ◌⊎◌, List, [], ◌∷◌, ◌++◌, map, length, Some, None, Ok, Err, Option, Result, sym, refl, ap, ◌∙◌, subst, arith, MatchResult}
-use Rattle.std.specs.List.{flat_map, AllByRecursion as All}
+use Rattle.std.specs.List.{flat_map, AllByRecursion}
 use Rattle.refusals.specs.declared.Refusal.{Refusal}
 use Rattle.page_store.specs.Meanings.{Meaning, Live, count_of, page_at}
 use Rattle.keys.specs.Kinds.{Kind, Field, below}
@@ -58,7 +58,7 @@ module _ (kind : Kind) (m : Meaning) (key : Field) (root height level page : ℕ
     node_is w node (Err other) read e = absurd (let z : ◌≡◌ {A = ℕ} 0 1 = cc in omega arith)
 
     pub child_is_chosen : level < height → (node : InnerNode) (r : Result InnerNode Refusal) → NodeRead inner_image InnerFits inner_of m page r → r ≡ Ok node → (chosen : Option ℕ)
-        → (kind.lawful key ≡ true → All (λ (row : InnerRow). kind.lawful row.key ≡ true) (inner_of node).rows → chosen ≡ Some (child_for kind key (inner_of node).first (inner_of node).rows))
+        → (kind.lawful key ≡ true → AllByRecursion (λ (row : InnerRow). kind.lawful row.key ≡ true) (inner_of node).rows → chosen ≡ Some (child_for kind key (inner_of node).first (inner_of node).rows))
         → chosen ≡ Some (child_for kind key (inner_of node).first (inner_of node).rows)
     child_is_chosen h node r read e chosen chose =
         let w = further kind m key (leaves_of valid.levels valid.tree) level height page h (onward.leads entries valid asked) in
@@ -72,7 +72,7 @@ module _ (kind : Kind) (m : Meaning) (key : Field) (root height level page : ℕ
         (w.0, omega arith, way_on kind m key (leaves_of valid.levels valid.tree) w.0 page w.2 asked.lawful node child (node_is w node r read e) is)
 
   pub onward_more : level < height → (node : InnerNode) (r : Result InnerNode Refusal) → NodeRead inner_image InnerFits inner_of m page r → r ≡ Ok node → (chosen : Option ℕ) (child : ℕ) → chosen ≡ Some child
-      → (kind.lawful key ≡ true → All (λ (row : InnerRow). kind.lawful row.key ≡ true) (inner_of node).rows → chosen ≡ Some (child_for kind key (inner_of node).first (inner_of node).rows))
+      → (kind.lawful key ≡ true → AllByRecursion (λ (row : InnerRow). kind.lawful row.key ≡ true) (inner_of node).rows → chosen ≡ Some (child_for kind key (inner_of node).first (inner_of node).rows))
       → Onward kind m key root height (level + 1) child
   onward_more h node r read e chosen child c chose =
       record {

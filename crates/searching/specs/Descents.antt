@@ -1,6 +1,6 @@
 -- The way down to the leaf of a key.
 use Rattle.std.specs.Prelude.{◌≡◌, ℕ, suc, Bool, true, cond, ◌&&◌, List, [], ◌∷◌, ◌++◌, map, length, ◌==◌, nat_le}
-use Rattle.std.specs.List.{flat_map, AllByRecursion as All}
+use Rattle.std.specs.List.{flat_map, AllByRecursion}
 use Rattle.keys.specs.Kinds.{Kind, Field, below}
 use Rattle.nodes.specs.Layout.{HeaderPage, InnerRow}
 use Rattle.nodes.specs.Meanings.{leaf_of}
@@ -43,6 +43,6 @@ pub record Arrives {kind : Kind} {pages : Pages} {entries : Entries} (valid : Va
   pub right : List Leaf
   pub is_among_the_leaves : leaves_of valid.levels valid.tree ≡ left ++ (leaf ∷ right)
   pub was_read : leaf_of descent.leaf ≡ record { next = leaf.next; entries = map entry_in leaf.entries }
-  pub left_lies_below : All (λ other. below kind other key ≡ true) (keys_in left)
-  pub right_lies_above : All (λ other. below kind key other ≡ true) (keys_in right)
+  pub left_lies_below : AllByRecursion (λ other. below kind other key ≡ true) (keys_in left)
+  pub right_lies_above : AllByRecursion (λ other. below kind key other ≡ true) (keys_in right)
   pub one_read_a_level : descent.reads ≡ height_of valid

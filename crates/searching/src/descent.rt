@@ -1,7 +1,7 @@
 //! The way down from the root to the leaf of a key.
 
 ghost use Rattle.std.specs.Prelude.{◌≡◌, suc, ◌+◌, ◌<◌, ◌≤◌, true, IfOk, Some, MatchResult};
-ghost use Rattle.std.specs.List.{AllByRecursion as All};
+ghost use Rattle.std.specs.List.{AllByRecursion};
 ghost use Rattle.page_store.specs.Meanings.{count_of};
 ghost use Rattle.nodes.specs.Layout.{InnerRow};
 ghost use Rattle.nodes.specs.Meanings.{header_of, inner_of};
@@ -25,7 +25,7 @@ const MOST_LEVELS: u16 = 6;
 
 // The child of the last row whose separator is not above the key, else the first child. Nothing where a key is unlawful.
 fn child_for<K: KeyKind>(node: &InnerNode, key: &[u8]) -> Option<u32>
-    ensures goes_by_the_separators { K.KeyKind.kind.lawful key.now ≡ true → All (λ (row : InnerRow). K.KeyKind.kind.lawful row.key ≡ true) (inner_of node.now).rows → result ≡ Some (child_for K.KeyKind.kind key.now (inner_of node.now).first (inner_of node.now).rows) }
+    ensures goes_by_the_separators { K.KeyKind.kind.lawful key.now ≡ true → AllByRecursion (λ (row : InnerRow). K.KeyKind.kind.lawful row.key ≡ true) (inner_of node.now).rows → result ≡ Some (child_for K.KeyKind.kind key.now (inner_of node.now).first (inner_of node.now).rows) }
 {
     let mut child = node.first;
     for i in 0..node.count {

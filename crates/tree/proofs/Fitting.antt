@@ -3,7 +3,7 @@ use Rattle.std.proofs.Common.{◌≡◌, ℕ, zero, suc, ◌+◌, ◌^◌, ◌<�
 use Rattle.std.proofs.ByRecursion.{All-weaker, All-append, sum_by_le}
 use Rattle.std.proofs.lemmas.List.{length-map, length-append}
 use Rattle.std.proofs.lemmas.Bool.{cases_lt, le-ltb, cond-false}
-use Rattle.std.specs.List.{flat_map, AllByRecursion as All}
+use Rattle.std.specs.List.{flat_map, AllByRecursion}
 use Rattle.keys.specs.Kinds.{Kind, Field}
 use Rattle.book.specs.Books.{count, PostingNumber}
 use Rattle.book.specs.Entries.{Entries}
@@ -38,8 +38,8 @@ ChainFits (first ∷ rest) = RecordFits (record_page first rest) × ChainFits re
 
 -- every node of a tree fits its page, and so does every record of its chains
 abbrev pub NodesFit : (levels : ℕ) → Tree levels → Type 0
-NodesFit zero leaf = LeafFits (leaf_page leaf) × All (λ (entry : EntryAt). ChainFits entry.records) leaf.entries
-NodesFit (suc levels) node = InnerFits (inner_page levels node) × NodesFit levels node.first × All (λ branch. NodesFit levels branch.child) node.rest
+NodesFit zero leaf = LeafFits (leaf_page leaf) × AllByRecursion (λ (entry : EntryAt). ChainFits entry.records) leaf.entries
+NodesFit (suc levels) node = InnerFits (inner_page levels node) × NodesFit levels node.first × AllByRecursion (λ branch. NodesFit levels branch.child) node.rest
 
 -- every page of a free list fits its page
 abbrev pub FreeListFits : List ℕ → Type 0
@@ -60,7 +60,7 @@ below_bound bound page n e h = go (cases_lt page bound)
 
 module _ (kind : Kind) (pages : Pages) (entries : Entries) (valid : Valid kind pages entries) where
   -- and the header is not reached again
-  reached_once : All (Linkable (length pages)) (node_pages valid.levels valid.tree ++ record_pages valid.levels valid.tree ++ valid.free)
+  reached_once : AllByRecursion (Linkable (length pages)) (node_pages valid.levels valid.tree ++ record_pages valid.levels valid.tree ++ valid.free)
   reached_once = all_counted (Linkable (length pages)) list once
     where
       list : List ℕ
@@ -70,16 +70,16 @@ module _ (kind : Kind) (pages : Pages) (entries : Entries) (valid : Valid kind p
       once zero h = absurd (let all = valid.each_page_is_reached_once 0 in let one = at_most_one (ltb 0 (length pages)) in omega (arith, one_same 0 0 refl))
       once (suc page) h = (omega arith, below_bound (length pages) (suc page) _ (valid.each_page_is_reached_once (suc page)) (omega arith))
 
-  in_use : All (Linkable (length pages)) (node_pages valid.levels valid.tree ++ record_pages valid.levels valid.tree)
+  in_use : AllByRecursion (Linkable (length pages)) (node_pages valid.levels valid.tree ++ record_pages valid.levels valid.tree)
   in_use = all_front (Linkable (length pages)) (node_pages valid.levels valid.tree ++ record_pages valid.levels valid.tree) valid.free reached_once
 
-  pub node_pages_linkable : All (Linkable (length pages)) (node_pages valid.levels valid.tree)
+  pub node_pages_linkable : AllByRecursion (Linkable (length pages)) (node_pages valid.levels valid.tree)
   node_pages_linkable = all_front (Linkable (length pages)) (node_pages valid.levels valid.tree) (record_pages valid.levels valid.tree) in_use
 
-  pub record_pages_linkable : All (Linkable (length pages)) (record_pages valid.levels valid.tree)
+  pub record_pages_linkable : AllByRecursion (Linkable (length pages)) (record_pages valid.levels valid.tree)
   record_pages_linkable = all_back (Linkable (length pages)) (node_pages valid.levels valid.tree) (record_pages valid.levels valid.tree) in_use
 
-  pub free_pages_linkable : All (Linkable (length pages)) valid.free
+  pub free_pages_linkable : AllByRecursion (Linkable (length pages)) valid.free
   free_pages_linkable = all_back (Linkable (length pages)) (node_pages valid.levels valid.tree ++ record_pages valid.levels valid.tree) valid.free reached_once
 
   -- nodes, records and free pages are no more than pages
@@ -89,24 +89,24 @@ module _ (kind : Kind) (pages : Pages) (entries : Entries) (valid : Valid kind p
       omega (arith, simp length-append at all)
 
 -- what holds of the pages of all nodes holds of the root's and of the leaves'
-pub root_among_nodes : (P : ℕ → Type 0) (levels : ℕ) (tree : Tree levels) → All P (node_pages levels tree) → P (root_of levels tree)
+pub root_among_nodes : (P : ℕ → Type 0) (levels : ℕ) (tree : Tree levels) → AllByRecursion P (node_pages levels tree) → P (root_of levels tree)
 root_among_nodes P zero tree all = all.0
 root_among_nodes P (suc levels) tree all = all.0
 
-each_leaf : {X : Type 0} (P : Leaf → Type 0) (Q : X → Type 0) (leaves : X → List Leaf) (branches : List (Branch X)) → ((x : X) → Q x → All P (leaves x)) → All (λ (branch : Branch X). Q branch.child) branches → All P (flat_map (λ (branch : Branch X). leaves branch.child) branches)
+each_leaf : {X : Type 0} (P : Leaf → Type 0) (Q : X → Type 0) (leaves : X → List Leaf) (branches : List (Branch X)) → ((x : X) → Q x → AllByRecursion P (leaves x)) → AllByRecursion (λ (branch : Branch X). Q branch.child) branches → AllByRecursion P (flat_map (λ (branch : Branch X). leaves branch.child) branches)
 each_leaf P Q leaves [] each all = tt
 each_leaf {X = X} P Q leaves (branch ∷ branches) each all =
     All-append P (leaves branch.child) (flat_map (λ (b : Branch X). leaves b.child) branches) (each branch.child all.0) (each_leaf P Q leaves branches each all.1)
 
-pub leaves_among_nodes : (P : ℕ → Type 0) (levels : ℕ) (tree : Tree levels) → All P (node_pages levels tree) → All (λ (leaf : Leaf). P leaf.page) (leaves_of levels tree)
+pub leaves_among_nodes : (P : ℕ → Type 0) (levels : ℕ) (tree : Tree levels) → AllByRecursion P (node_pages levels tree) → AllByRecursion (λ (leaf : Leaf). P leaf.page) (leaves_of levels tree)
 leaves_among_nodes P zero tree all = (all.0, tt)
 leaves_among_nodes P (suc levels) tree all =
     All-append (λ (leaf : Leaf). P leaf.page) (leaves_of levels tree.first) (flat_map (λ (branch : Branch (Tree levels)). leaves_of levels branch.child) tree.rest)
     (leaves_among_nodes P levels tree.first (all_first P (node_pages levels) tree all.1))
-    (each_leaf (λ (leaf : Leaf). P leaf.page) (λ (child : Tree levels). All P (node_pages levels child)) (leaves_of levels) tree.rest (leaves_among_nodes P levels) (all_rest P (node_pages levels) tree all.1))
+    (each_leaf (λ (leaf : Leaf). P leaf.page) (λ (child : Tree levels). AllByRecursion P (node_pages levels child)) (leaves_of levels) tree.rest (leaves_among_nodes P levels) (all_rest P (node_pages levels) tree all.1))
 
 -- a leaf has at most 8 entries
-pub leaves_sized : (root : Bool) (levels : ℕ) (tree : Tree levels) → Sized root levels tree → All (λ (leaf : Leaf). length leaf.entries ≤ 8) (leaves_of levels tree)
+pub leaves_sized : (root : Bool) (levels : ℕ) (tree : Tree levels) → Sized root levels tree → AllByRecursion (λ (leaf : Leaf). length leaf.entries ≤ 8) (leaves_of levels tree)
 leaves_sized root zero tree sized = (sized.1, tt)
 leaves_sized root (suc levels) tree sized =
     All-append (λ (leaf : Leaf). length leaf.entries ≤ 8) (leaves_of levels tree.first) (flat_map (λ (branch : Branch (Tree levels)). leaves_of levels branch.child) tree.rest)
@@ -114,17 +114,17 @@ leaves_sized root (suc levels) tree sized =
     (each_leaf (λ (leaf : Leaf). length leaf.entries ≤ 8) (Sized false levels) (leaves_of levels) tree.rest (leaves_sized false levels) sized.3)
 
 -- a link to the next leaf is a leaf's page or 0
-next_fits : (bound : ℕ) (leaves : List Leaf) → 0 < bound → All (λ (leaf : Leaf). leaf.page < bound) leaves → next_leaf leaves < bound
+next_fits : (bound : ℕ) (leaves : List Leaf) → 0 < bound → AllByRecursion (λ (leaf : Leaf). leaf.page < bound) leaves → next_leaf leaves < bound
 next_fits bound [] some all = some
 next_fits bound (leaf ∷ leaves) some all = all.0
 
-links_fit : (bound : ℕ) (leaves : List Leaf) → 0 < bound → All (λ (leaf : Leaf). leaf.page < bound) leaves → Linked leaves → All (λ (leaf : Leaf). leaf.next < bound) leaves
+links_fit : (bound : ℕ) (leaves : List Leaf) → 0 < bound → AllByRecursion (λ (leaf : Leaf). leaf.page < bound) leaves → Linked leaves → AllByRecursion (λ (leaf : Leaf). leaf.next < bound) leaves
 links_fit bound [] some all linked = tt
 links_fit bound (leaf ∷ leaves) some all linked =
     (let e = linked.0 in let h = next_fits bound leaves some all.1 in omega arith, links_fit bound leaves some all.1 linked.1)
 
 -- rising fields are lawful
-pub rise_lawful : (kind : Kind) (before : Option Field) (keys : List Field) → Rise kind before keys → All (λ key. kind.lawful key ≡ true) keys
+pub rise_lawful : (kind : Kind) (before : Option Field) (keys : List Field) → Rise kind before keys → AllByRecursion (λ key. kind.lawful key ≡ true) keys
 rise_lawful kind before [] rise = tt
 rise_lawful kind before (key ∷ keys) rise = (rise.0, rise_lawful kind (Some key) keys rise.2)
 
@@ -132,14 +132,14 @@ rise_lawful kind before (key ∷ keys) rise = (rise.0, rise_lawful kind (Some ke
 abbrev Small : ℕ → Type 0
 Small page = page < 65536
 
-head_small : (records : List RecordAt) → All Small (map (λ (r : RecordAt). r.page) records) → head_of records < 65536
+head_small : (records : List RecordAt) → AllByRecursion Small (map (λ (r : RecordAt). r.page) records) → head_of records < 65536
 head_small [] all = omega arith
 head_small (first ∷ rest) all = all.0
 
 posting_fits : (n : ℕ) → PostingNumber n → n < 2 ^ 64
 posting_fits n h = omega arith
 
-chain_fits : (records : List RecordAt) → All Small (map (λ (r : RecordAt). r.page) records) → All (λ (r : RecordAt). (1 ≤ length r.postings) × (length r.postings ≤ 60)) records → All PostingNumber (flat_map (λ (r : RecordAt). r.postings) records) → ChainFits records
+chain_fits : (records : List RecordAt) → AllByRecursion Small (map (λ (r : RecordAt). r.page) records) → AllByRecursion (λ (r : RecordAt). (1 ≤ length r.postings) × (length r.postings ≤ 60)) records → AllByRecursion PostingNumber (flat_map (λ (r : RecordAt). r.postings) records) → ChainFits records
 chain_fits [] small sizes numbers = tt
 chain_fits (first ∷ rest) small sizes numbers = (
   record {
@@ -154,7 +154,7 @@ chain_fits (first ∷ rest) small sizes numbers = (
 -- an entry: within its sizes, with records that are on pages, no more of them than pages
 record EntryPlaced (entry : EntryAt) : Type 0 where
   pub fits : EntryFits entry
-  pub records_are_on_pages : All Small (chain_pages entry)
+  pub records_are_on_pages : AllByRecursion Small (chain_pages entry)
   pub few_records : length (chain_pages entry) ≤ 65536
 
 entry_fits : (kind : Kind) (entry : EntryAt) → kind.lawful entry.key ≡ true → EntryPlaced entry → EntryFitsIn (entry_in entry)
@@ -174,13 +174,13 @@ entry_fits kind entry lawful placed =
 
 -- a leaf: linked to a page, its entries placed
 abbrev LeafPlaced : Leaf → Type 0
-LeafPlaced leaf = (leaf.next < 65536) × All EntryPlaced leaf.entries
+LeafPlaced leaf = (leaf.next < 65536) × AllByRecursion EntryPlaced leaf.entries
 
-entries_fit : (kind : Kind) (entries : List EntryAt) → All (λ (entry : EntryAt). kind.lawful entry.key ≡ true) entries → All EntryPlaced entries → All EntryFitsIn (map entry_in entries)
+entries_fit : (kind : Kind) (entries : List EntryAt) → AllByRecursion (λ (entry : EntryAt). kind.lawful entry.key ≡ true) entries → AllByRecursion EntryPlaced entries → AllByRecursion EntryFitsIn (map entry_in entries)
 entries_fit kind [] lawful placed = tt
 entries_fit kind (entry ∷ entries) lawful placed = (entry_fits kind entry lawful.0 placed.0, entries_fit kind entries lawful.1 placed.1)
 
-chains_fit : (entries : List EntryAt) → All EntryPlaced entries → All (λ (entry : EntryAt). ChainFits entry.records) entries
+chains_fit : (entries : List EntryAt) → AllByRecursion EntryPlaced entries → AllByRecursion (λ (entry : EntryAt). ChainFits entry.records) entries
 chains_fit [] placed = tt
 chains_fit (entry ∷ entries) placed =
     let here = placed.0 in (
@@ -199,7 +199,7 @@ leaf_fits kind root leaf sized ordered placed =
       chains_fit leaf.entries placed.1,
     )
 
-rows_fit : (kind : Kind) (levels : ℕ) (branches : List (Branch (Tree levels))) → All (λ key. kind.lawful key ≡ true) (map (λ (branch : Branch (Tree levels)). branch.key) branches) → All (λ (branch : Branch (Tree levels)). All Small (node_pages levels branch.child)) branches → All RowFits (map (λ (branch : Branch (Tree levels)). record { key = branch.key; child = root_of levels branch.child }) branches)
+rows_fit : (kind : Kind) (levels : ℕ) (branches : List (Branch (Tree levels))) → AllByRecursion (λ key. kind.lawful key ≡ true) (map (λ (branch : Branch (Tree levels)). branch.key) branches) → AllByRecursion (λ (branch : Branch (Tree levels)). AllByRecursion Small (node_pages levels branch.child)) branches → AllByRecursion RowFits (map (λ (branch : Branch (Tree levels)). record { key = branch.key; child = root_of levels branch.child }) branches)
 rows_fit kind levels [] lawful small = tt
 rows_fit kind levels (branch ∷ branches) lawful small = (
   record {
@@ -210,7 +210,7 @@ rows_fit kind levels (branch ∷ branches) lawful small = (
   rows_fit kind levels branches lawful.1 small.1,
 )
 
-inner_fits : (kind : Kind) (root : Bool) (levels : ℕ) (node : Tree (suc levels)) → All Small (node_pages (suc levels) node) → Sized root (suc levels) node → Ordered kind (suc levels) node → InnerFits (inner_page levels node)
+inner_fits : (kind : Kind) (root : Bool) (levels : ℕ) (node : Tree (suc levels)) → AllByRecursion Small (node_pages (suc levels) node) → Sized root (suc levels) node → Ordered kind (suc levels) node → InnerFits (inner_page levels node)
 inner_fits kind root levels node small sized ordered =
     record {
       first_fits = let h = root_among_nodes Small levels node.first (all_first Small (node_pages levels) node small.1) in omega arith;
@@ -219,13 +219,13 @@ inner_fits kind root levels node small sized ordered =
     }
 
 -- each node fits, by induction on the levels
-module _ (kind : Kind) (levels : ℕ) (fit : (tree : Tree levels) → All Small (node_pages levels tree) → Sized false levels tree → Ordered kind levels tree → All LeafPlaced (leaves_of levels tree) → NodesFit levels tree) where
-  children_fit : (branches : List (Branch (Tree levels))) → All (λ (branch : Branch (Tree levels)). All Small (node_pages levels branch.child)) branches → All (λ (branch : Branch (Tree levels)). Sized false levels branch.child) branches → All (λ (branch : Branch (Tree levels)). Ordered kind levels branch.child) branches → All (λ (branch : Branch (Tree levels)). All LeafPlaced (leaves_of levels branch.child)) branches → All (λ (branch : Branch (Tree levels)). NodesFit levels branch.child) branches
+module _ (kind : Kind) (levels : ℕ) (fit : (tree : Tree levels) → AllByRecursion Small (node_pages levels tree) → Sized false levels tree → Ordered kind levels tree → AllByRecursion LeafPlaced (leaves_of levels tree) → NodesFit levels tree) where
+  children_fit : (branches : List (Branch (Tree levels))) → AllByRecursion (λ (branch : Branch (Tree levels)). AllByRecursion Small (node_pages levels branch.child)) branches → AllByRecursion (λ (branch : Branch (Tree levels)). Sized false levels branch.child) branches → AllByRecursion (λ (branch : Branch (Tree levels)). Ordered kind levels branch.child) branches → AllByRecursion (λ (branch : Branch (Tree levels)). AllByRecursion LeafPlaced (leaves_of levels branch.child)) branches → AllByRecursion (λ (branch : Branch (Tree levels)). NodesFit levels branch.child) branches
   children_fit [] small sized ordered placed = tt
   children_fit (branch ∷ branches) small sized ordered placed =
       (fit branch.child small.0 sized.0 ordered.0 placed.0, children_fit branches small.1 sized.1 ordered.1 placed.1)
 
-nodes_fit_from : (kind : Kind) (root : Bool) (levels : ℕ) (tree : Tree levels) → All Small (node_pages levels tree) → Sized root levels tree → Ordered kind levels tree → All LeafPlaced (leaves_of levels tree) → NodesFit levels tree
+nodes_fit_from : (kind : Kind) (root : Bool) (levels : ℕ) (tree : Tree levels) → AllByRecursion Small (node_pages levels tree) → Sized root levels tree → Ordered kind levels tree → AllByRecursion LeafPlaced (leaves_of levels tree) → NodesFit levels tree
 nodes_fit_from kind root zero leaf small sized ordered placed = leaf_fits kind root leaf sized ordered placed.0
 nodes_fit_from kind root (suc levels) node small sized ordered placed = (
   inner_fits kind root levels node small sized ordered,
@@ -236,21 +236,21 @@ nodes_fit_from kind root (suc levels) node small sized ordered placed = (
 linkable_small : (bound : ℕ) → bound ≤ 65536 → (page : ℕ) → Linkable bound page → page < 65536
 linkable_small bound few page h = omega arith
 
-placed_all : (entries : List EntryAt) (most : ℕ) → most ≤ 65536 → All EntryFits entries → All (λ (entry : EntryAt). All Small (chain_pages entry)) entries → All (λ (entry : EntryAt). length (chain_pages entry) ≤ most) entries → All EntryPlaced entries
+placed_all : (entries : List EntryAt) (most : ℕ) → most ≤ 65536 → AllByRecursion EntryFits entries → AllByRecursion (λ (entry : EntryAt). AllByRecursion Small (chain_pages entry)) entries → AllByRecursion (λ (entry : EntryAt). length (chain_pages entry) ≤ most) entries → AllByRecursion EntryPlaced entries
 placed_all [] most few fit small short = tt
 placed_all (entry ∷ entries) most few fit small short =
     (record { fits = fit.0; records_are_on_pages = small.0; few_records = let h = short.0 in omega arith }, placed_all entries most few fit.1 small.1 short.1)
 
-next_free_small : (bound : ℕ) (free : List ℕ) → bound ≤ 65536 → All (Linkable bound) free → next_free free < 65536
+next_free_small : (bound : ℕ) (free : List ℕ) → bound ≤ 65536 → AllByRecursion (Linkable bound) free → next_free free < 65536
 next_free_small bound [] few all = omega arith
 next_free_small bound (page ∷ free) few all = linkable_small bound few page all.0
 
-pub free_list_fits : (bound : ℕ) (free : List ℕ) → bound ≤ 65536 → All (Linkable bound) free → FreeListFits free
+pub free_list_fits : (bound : ℕ) (free : List ℕ) → bound ≤ 65536 → AllByRecursion (Linkable bound) free → FreeListFits free
 free_list_fits bound [] few all = tt
 free_list_fits bound (page ∷ free) few all = (record { next_fits = let h = next_free_small bound free few all.1 in omega arith }, free_list_fits bound free few all.1)
 
-both_placed : (leaves : List Leaf) → All (λ (leaf : Leaf). leaf.next < 65536) leaves → All (λ (leaf : Leaf). All EntryPlaced leaf.entries) leaves → All LeafPlaced leaves
-both_placed leaves nexts entries = all_both (λ (leaf : Leaf). leaf.next < 65536) (λ (leaf : Leaf). All EntryPlaced leaf.entries) leaves nexts entries
+both_placed : (leaves : List Leaf) → AllByRecursion (λ (leaf : Leaf). leaf.next < 65536) leaves → AllByRecursion (λ (leaf : Leaf). AllByRecursion EntryPlaced leaf.entries) leaves → AllByRecursion LeafPlaced leaves
+both_placed leaves nexts entries = all_both (λ (leaf : Leaf). leaf.next < 65536) (λ (leaf : Leaf). AllByRecursion EntryPlaced leaf.entries) leaves nexts entries
 
 -- a valid tree on at most 65,536 pages: its nodes, its header and its free pages fit
 pub nodes_fit_pages : (kind : Kind) (pages : Pages) (entries : Entries) (valid : Valid kind pages entries) → length pages ≤ 65536 → NodesFit valid.levels valid.tree

@@ -2,7 +2,7 @@
 use Rattle.std.proofs.Common.{ℕ, zero, suc, ◌+◌, ◌*◌, ◌^◌, ◌<◌, ◌≤◌, true, false, List, [], ◌∷◌, length, ⊎_elim, zero-lt-suc, mul-le-mul_left, pow-suc, mul-zero, mul-suc, arith, length-append}
 use native.Mathlib.Nat.{pow-le-pow_right}
 use Rattle.std.proofs.lemmas.Bool.{cases_lt}
-use Rattle.std.specs.List.{flat_map, AllByRecursion as All}
+use Rattle.std.specs.List.{flat_map, AllByRecursion}
 use Rattle.keys.specs.Kinds.{Kind}
 use Rattle.book.specs.Entries.{Entries}
 use Rattle.tree.specs.Trees.{Branch, Inner, Tree, each_child, leaves_of, node_pages}
@@ -12,20 +12,20 @@ use Rattle.tree.proofs.Tallies.{fits_below, fills}
 use Rattle.tree.specs.Counts.{PagesAreInUseOrFree}
 
 -- lists of at least so many, joined
-joined_least : {X A : Type 0} (f : X → List A) (least : ℕ) (xs : List X) → All (λ x. least ≤ length (f x)) xs → least * length xs ≤ length (flat_map f xs)
+joined_least : {X A : Type 0} (f : X → List A) (least : ℕ) (xs : List X) → AllByRecursion (λ x. least ≤ length (f x)) xs → least * length xs ≤ length (flat_map f xs)
 joined_least f least [] all = omega (arith, mul-zero least)
 joined_least f least (x ∷ xs) all =
     let ih = joined_least f least xs all.1 in
     let here = all.0 in
     omega (arith, mul-suc least (length xs), length-append (f x) (flat_map f xs))
 
-children_least : {X A : Type 0} (f : X → List A) (least : ℕ) (node : Inner X) → least ≤ length (f node.first) → All (λ (branch : Branch X). least ≤ length (f branch.child)) node.rest → least + least * length node.rest ≤ length (each_child f node)
+children_least : {X A : Type 0} (f : X → List A) (least : ℕ) (node : Inner X) → least ≤ length (f node.first) → AllByRecursion (λ (branch : Branch X). least ≤ length (f branch.child)) node.rest → least + least * length node.rest ≤ length (each_child f node)
 children_least f least node first rest =
     let ih = joined_least (λ (branch : Branch _). f branch.child) least node.rest rest in
     omega (arith, length-append (f node.first) (flat_map (λ branch. f branch.child) node.rest))
 
 module _ (levels : ℕ) where
-  each_least : (least : ℕ) (branches : List (Branch (Tree levels))) → ((tree : Tree levels) → Sized false levels tree → least ≤ length (leaves_of levels tree)) → All (λ (branch : Branch (Tree levels)). Sized false levels branch.child) branches → All (λ (branch : Branch (Tree levels)). least ≤ length (leaves_of levels branch.child)) branches
+  each_least : (least : ℕ) (branches : List (Branch (Tree levels))) → ((tree : Tree levels) → Sized false levels tree → least ≤ length (leaves_of levels tree)) → AllByRecursion (λ (branch : Branch (Tree levels)). Sized false levels branch.child) branches → AllByRecursion (λ (branch : Branch (Tree levels)). least ≤ length (leaves_of levels branch.child)) branches
   each_least least [] fewest all = tt
   each_least least (branch ∷ branches) fewest all = (fewest branch.child all.0, each_least least branches fewest all.1)
 

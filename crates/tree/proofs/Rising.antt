@@ -3,7 +3,7 @@ use Rattle.std.proofs.Common.{◌≡◌, ℕ, zero, suc, Bool, true, false, List
 use Rattle.std.proofs.ByRecursion.{All-append, All-weaker}
 use Rattle.std.proofs.lemmas.List.{append_assoc, append-nil, map-append}
 use Rattle.std.proofs.lemmas.Bool.{both_ways}
-use Rattle.std.specs.List.{flat_map, AllByRecursion as All}
+use Rattle.std.specs.List.{flat_map, AllByRecursion}
 use Rattle.keys.specs.Kinds.{Kind, Field, below}
 use Rattle.keys.proofs.Orders.{below_transitive, above_or_same}
 use Rattle.batches.specs.KeyCheck.{above}
@@ -65,11 +65,11 @@ module _ (kind : Kind) where
       ⊎_elim (λ (same : key ≡ bound). rw same up) (λ more. below_transitive kind low bound key ll lb lk up more) (above_or_same kind key bound lk lb from)
 
   -- rising keys below a bound, then rising keys from the bound on
-  rise_on : (before : Option Field) (bound : Field) (ys : List Field) → LawfulBound before → Lawful bound → above kind before bound ≡ true → Rise kind None ys → All (From kind (Some bound)) ys → Rise kind before ys
+  rise_on : (before : Option Field) (bound : Field) (ys : List Field) → LawfulBound before → Lawful bound → above kind before bound ≡ true → Rise kind None ys → AllByRecursion (From kind (Some bound)) ys → Rise kind before ys
   rise_on before bound [] ll lb up rise from = tt
   rise_on before bound (y ∷ ys) ll lb up rise from = (rise.0, above_lower before bound y ll lb rise.0 up from.0, rise.2)
 
-  pub rise_append : (before : Option Field) (bound : Field) (xs ys : List Field) → LawfulBound before → Lawful bound → above kind before bound ≡ true → Rise kind before xs → All (Below kind (Some bound)) xs → Rise kind None ys → All (From kind (Some bound)) ys → Rise kind before (xs ++ ys)
+  pub rise_append : (before : Option Field) (bound : Field) (xs ys : List Field) → LawfulBound before → Lawful bound → above kind before bound ≡ true → Rise kind before xs → AllByRecursion (Below kind (Some bound)) xs → Rise kind None ys → AllByRecursion (From kind (Some bound)) ys → Rise kind before (xs ++ ys)
   rise_append before bound [] ys ll lb up rise under later from = rise_on before bound ys ll lb up later from
   rise_append before bound (x ∷ xs) ys ll lb up rise under later from =
       (rise.0, rise.1, rise_append (Some x) bound xs ys rise.0 lb under.0 rise.2 under.1 later from)
@@ -80,7 +80,7 @@ module _ (kind : Kind) where
     keys_from child rest = keys child ++ flat_map (λ (branch : Branch X). keys branch.child) rest
 
     -- none of them lies below the bound of the first
-    pub all_from : (low : Option Field) (child : X) (rest : List (Branch X)) → LawfulBound low → Rise kind low (map (λ (branch : Branch X). branch.key) rest) → InRange kind keys low child rest → All Lawful (keys child) → All (λ (branch : Branch X). All Lawful (keys branch.child)) rest → All (λ (key : Field). Lawful key × From kind low key) (keys_from child rest)
+    pub all_from : (low : Option Field) (child : X) (rest : List (Branch X)) → LawfulBound low → Rise kind low (map (λ (branch : Branch X). branch.key) rest) → InRange kind keys low child rest → AllByRecursion Lawful (keys child) → AllByRecursion (λ (branch : Branch X). AllByRecursion Lawful (keys branch.child)) rest → AllByRecursion (λ (key : Field). Lawful key × From kind low key) (keys_from child rest)
     all_from low child [] ll seps range lawful rest =
         rw (append-nil (keys child)) (all_both Lawful (From kind low) (keys child) lawful (All-weaker (λ key. From kind low key × Below kind None key) (From kind low) (λ key h. h.0) (keys child) range))
     all_from low child (branch ∷ branches) ll seps range lawful rest =
@@ -88,11 +88,11 @@ module _ (kind : Kind) where
         (all_both Lawful (From kind low) (keys child) lawful (All-weaker (λ key. From kind low key × Below kind (Some branch.key) key) (From kind low) (λ key h. h.0) (keys child) range.0))
         (All-weaker (λ key. Lawful key × From kind (Some branch.key) key) (λ key. Lawful key × From kind low key) (λ key h. (h.0, from_lower low branch.key key ll seps.0 h.0 seps.1 h.1)) (keys_from branch.child branches) (all_from (Some branch.key) branch.child branches seps.0 seps.2 range.1 rest.0 rest.1))
 
-    pub children_rise : (low : Option Field) (child : X) (rest : List (Branch X)) → LawfulBound low → Rise kind low (map (λ (branch : Branch X). branch.key) rest) → InRange kind keys low child rest → Rise kind None (keys child) → All (λ (branch : Branch X). Rise kind None (keys branch.child)) rest → Rise kind None (keys_from child rest)
+    pub children_rise : (low : Option Field) (child : X) (rest : List (Branch X)) → LawfulBound low → Rise kind low (map (λ (branch : Branch X). branch.key) rest) → InRange kind keys low child rest → Rise kind None (keys child) → AllByRecursion (λ (branch : Branch X). Rise kind None (keys branch.child)) rest → Rise kind None (keys_from child rest)
     children_rise low child [] ll seps range rise rises = rw (append-nil (keys child)) rise
     children_rise low child (branch ∷ branches) ll seps range rise rises =
-        let lawful : All Lawful (keys branch.child) = rise_lawful kind None (keys branch.child) rises.0 in
-        let later = all_from (Some branch.key) branch.child branches seps.0 seps.2 range.1 lawful (All-weaker (λ (b : Branch X). Rise kind None (keys b.child)) (λ (b : Branch X). All Lawful (keys b.child)) (λ b h. rise_lawful kind None (keys b.child) h) branches rises.1) in
+        let lawful : AllByRecursion Lawful (keys branch.child) = rise_lawful kind None (keys branch.child) rises.0 in
+        let later = all_from (Some branch.key) branch.child branches seps.0 seps.2 range.1 lawful (All-weaker (λ (b : Branch X). Rise kind None (keys b.child)) (λ (b : Branch X). AllByRecursion Lawful (keys b.child)) (λ b h. rise_lawful kind None (keys b.child) h) branches rises.1) in
         rise_append None branch.key (keys child) (keys_from branch.child branches) tt seps.0 refl rise
         (All-weaker (λ key. From kind low key × Below kind (Some branch.key) key) (Below kind (Some branch.key)) (λ key h. h.1) (keys child) range.0)
         (children_rise (Some branch.key) branch.child branches seps.0 seps.2 range.1 rises.0 rises.1)
@@ -104,5 +104,5 @@ module _ (kind : Kind) where
       let rest = All-weaker (λ (branch : Branch (Tree levels)). Ordered kind levels branch.child) (λ (branch : Branch (Tree levels)). Rise kind None (keys_of levels branch.child)) (λ branch h. keys_rise levels branch.child h) tree.rest ordered.3 in
       subst (Rise kind None) (sym (keys_of_children levels tree)) (children_rise (keys_of levels) None tree.first tree.rest tt ordered.0 ordered.1 (keys_rise levels tree.first ordered.2) rest)
 
-  pub keys_lawful : (levels : ℕ) (tree : Tree levels) → Ordered kind levels tree → All Lawful (keys_of levels tree)
+  pub keys_lawful : (levels : ℕ) (tree : Tree levels) → Ordered kind levels tree → AllByRecursion Lawful (keys_of levels tree)
   keys_lawful levels tree ordered = rise_lawful kind None (keys_of levels tree) (keys_rise levels tree ordered)

@@ -3,7 +3,7 @@ use Rattle.std.proofs.Common.{◌≡◌, ℕ, zero, suc, ◌+◌, ◌-◌, ◌<�
 use Rattle.std.proofs.ByRecursion.{All-append, All-weaker, All-map, all-has}
 use Rattle.std.proofs.lemmas.List.{append-nil, length-map, length-append, get_or_append_left, get_or-append_right}
 use Rattle.std.proofs.lemmas.Bool.{both_ways, cases_lt}
-use Rattle.std.specs.List.{ContainsAt as Has, flat_map, AllByRecursion as All, slice_get}
+use Rattle.std.specs.List.{ContainsAt as Has, flat_map, AllByRecursion, slice_get}
 use Rattle.keys.specs.Kinds.{Kind, Field, below}
 use Rattle.tree.specs.Trees.{Leaf, Branch, Inner, Tree, each_child, leaves_of, keys_of}
 use Rattle.tree.specs.Valid.{Sized, Rise, From, Below, Between, InRange, Ordered}
@@ -53,7 +53,7 @@ module _ (kind : Kind) where
         subst (λ (left : Option Field). Between kind left (slice_get (separators rest) i) (keys (get_or (children branch.child rest) i d))) (sym (left_next branch.key (separators rest) i)) (range_at (Some branch.key) branch.child rest i d (omega arith) range.1)
 
     -- a key of the node that lies in the range of child i stands in child i: any other child's range excludes it
-    held_at : (low : Option Field) (child : X) (rest : List (Branch X)) (i : ℕ) (d : X) (key : Field) → i < suc (length rest) → Lawful kind key → Rise kind low (separators rest) → InRange kind keys low child rest → All (λ (branch : Branch X). All (Lawful kind) (keys branch.child)) rest → Has (keys_from kind keys child rest) key → From kind (left_from low (separators rest) i) key → Below kind (slice_get (separators rest) i) key → Has (keys (get_or (children child rest) i d)) key
+    held_at : (low : Option Field) (child : X) (rest : List (Branch X)) (i : ℕ) (d : X) (key : Field) → i < suc (length rest) → Lawful kind key → Rise kind low (separators rest) → InRange kind keys low child rest → AllByRecursion (λ (branch : Branch X). AllByRecursion (Lawful kind) (keys branch.child)) rest → Has (keys_from kind keys child rest) key → From kind (left_from low (separators rest) i) key → Below kind (slice_get (separators rest) i) key → Has (keys (get_or (children child rest) i d)) key
     held_at low child [] zero d key within lk rise range lawful has from under = rw (append-nil (keys child)) at has
     held_at low child [] (suc i) d key within lk rise range lawful has from under = absurd (omega arith)
     held_at low child (branch ∷ rest) zero d key within lk rise range lawful has from under =
@@ -74,7 +74,7 @@ children_exact : (kind : Kind) (levels : ℕ) (node : Tree (suc levels)) → Ord
 children_exact kind levels node ordered i key within has =
     let many : i < suc (length node.rest) = let same = length-map node.rest (λ (branch : Branch (Tree levels)). branch.child) in omega arith in
     let lawful : Lawful kind key = all-has (Lawful kind) (keys_of (suc levels) node) key (keys_lawful kind (suc levels) node ordered) has in
-    let each = All-weaker (λ (branch : Branch (Tree levels)). Ordered kind levels branch.child) (λ (branch : Branch (Tree levels)). All (Lawful kind) (keys_of levels branch.child)) (λ branch h. keys_lawful kind levels branch.child h) node.rest ordered.3 in
+    let each = All-weaker (λ (branch : Branch (Tree levels)). Ordered kind levels branch.child) (λ (branch : Branch (Tree levels)). AllByRecursion (Lawful kind) (keys_of levels branch.child)) (λ branch h. keys_lawful kind levels branch.child h) node.rest ordered.3 in
     let together : Has (each_child (keys_of levels) node) key = subst (λ (keys : List Field). Has keys key) (keys_of_children levels node) has in
     let left = left_of i node in
     let range = range_at kind (keys_of levels) None node.first node.rest i node.first many ordered.1 in
@@ -122,11 +122,11 @@ b_plus_nodes kind root (suc levels) node sized ordered = (
 )
 
 -- the depths of leaves
-all_joined : {X Y : Type 0} (P : Y → Type 0) (f : X → List Y) (xs : List X) → ((x : X) → All P (f x)) → All P (flat_map f xs)
+all_joined : {X Y : Type 0} (P : Y → Type 0) (f : X → List Y) (xs : List X) → ((x : X) → AllByRecursion P (f x)) → AllByRecursion P (flat_map f xs)
 all_joined P f [] each = tt
 all_joined P f (x ∷ xs) each = All-append P (f x) (flat_map f xs) (each x) (all_joined P f xs each)
 
-depths_agree : (levels : ℕ) (tree : Tree levels) → All (λ (depth : ℕ). depth ≡ levels) (leaf_depths levels tree)
+depths_agree : (levels : ℕ) (tree : Tree levels) → AllByRecursion (λ (depth : ℕ). depth ≡ levels) (leaf_depths levels tree)
 depths_agree zero leaf = (refl, tt)
 depths_agree (suc levels) node =
     let f : Branch (Tree levels) → List ℕ = λ (branch : Branch (Tree levels)). leaf_depths levels branch.child in

@@ -1,7 +1,7 @@
 -- What pages spell is determined by their bytes: images tell values that fit apart. Assumes nothing.
 use Rattle.std.proofs.Common.{◌≡◌, ℕ, zero, suc, ◌≤◌, List, [], ◌∷◌, map, length, get_or, sum_by, sym, refl, ap, ◌∙◌, subst, arith}
 use Rattle.std.proofs.lemmas.List.Sums.{sum_by-cons}
-use Rattle.std.specs.List.{AllByRecursion as All}
+use Rattle.std.specs.List.{AllByRecursion}
 use Rattle.page_store.specs.Meanings.{Live, Gone}
 use Rattle.nodes.specs.Layout.{HeaderPage, InnerPage, InnerRow, LeafPage, LeafEntry, RecordPage, FreePage, header_image, inner_image, leaf_image, record_image, free_image, HeaderFits, InnerFits, LeafFits, RecordFits, FreeFits}
 use Rattle.nodes.specs.Readings.{header_in, inner_in, leaf_in, record_in, free_in}
@@ -30,7 +30,7 @@ first_same x y xs ys e = cc
 rest_same : {X : Type 0} (x y : X) (xs ys : List X) → (x ∷ xs) ≡ (y ∷ ys) → xs ≡ ys
 rest_same x y xs ys e = cc
 
-pub same_from_map : {X Y : Type 0} (f : X → Y) (P : X → Type 0) (xs ys : List X) → ((x y : X) → P x → P y → f x ≡ f y → x ≡ y) → All P xs → All P ys → map f xs ≡ map f ys → xs ≡ ys
+pub same_from_map : {X Y : Type 0} (f : X → Y) (P : X → Type 0) (xs ys : List X) → ((x y : X) → P x → P y → f x ≡ f y → x ≡ y) → AllByRecursion P xs → AllByRecursion P ys → map f xs ≡ map f ys → xs ≡ ys
 same_from_map f P [] [] told h k e = refl
 same_from_map f P [] (y ∷ ys) told h k e = absurd (omega (arith, ap length e))
 same_from_map f P (x ∷ xs) [] told h k e = absurd (omega (arith, ap length e))
@@ -105,7 +105,7 @@ module _ {X : Type 0} where
   one_branch root P told a b h k e =
       same_branch a b (ap (λ (row : InnerRow). row.key) e) (told a.child b.child h k (ap (λ (row : InnerRow). row.child) e))
 
-  one_inner : (root : X → ℕ) (P : X → Type 0) → ((t u : X) → P t → P u → root t ≡ root u → t ≡ u) → (a b : Inner X) → P a.first → P b.first → All (λ (branch : Branch X). P branch.child) a.rest → All (λ (branch : Branch X). P branch.child) b.rest → a.page ≡ b.page → root a.first ≡ root b.first → map (λ (branch : Branch X). made_row branch.key (root branch.child)) a.rest ≡ map (λ (branch : Branch X). made_row branch.key (root branch.child)) b.rest → a ≡ b
+  one_inner : (root : X → ℕ) (P : X → Type 0) → ((t u : X) → P t → P u → root t ≡ root u → t ≡ u) → (a b : Inner X) → P a.first → P b.first → AllByRecursion (λ (branch : Branch X). P branch.child) a.rest → AllByRecursion (λ (branch : Branch X). P branch.child) b.rest → a.page ≡ b.page → root a.first ≡ root b.first → map (λ (branch : Branch X). made_row branch.key (root branch.child)) a.rest ≡ map (λ (branch : Branch X). made_row branch.key (root branch.child)) b.rest → a ≡ b
   one_inner root P told a b h k hs ks page first rows =
       same_inner a b page (told a.first b.first h k first)
       (same_from_map (λ (branch : Branch X). made_row branch.key (root branch.child)) (λ (branch : Branch X). P branch.child) a.rest b.rest (one_branch root P told) hs ks rows)

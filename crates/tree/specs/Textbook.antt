@@ -1,6 +1,6 @@
 -- The B+-tree as textbooks have it, said of a tree on pages node by node.
 use Rattle.std.specs.Prelude.{◌≡◌, ℕ, zero, suc, ◌<◌, ◌≤◌, Bool, true, false, List, [], ◌∷◌, map, length, None, Option, slice_index_or}
-use Rattle.std.specs.List.{ContainsAt as Has, AllByRecursion as All, slice_get}
+use Rattle.std.specs.List.{ContainsAt as Has, AllByRecursion, slice_get}
 use Rattle.keys.specs.Kinds.{Kind, Field}
 use Rattle.book.specs.Entries.{Entries}
 use Rattle.tree.specs.Trees.{EntryAt, Leaf, Inner, Tree, each_child, leaves_of, keys_of}
@@ -43,7 +43,7 @@ pub record BPlusInner (kind : Kind) (root : Bool) (levels : ℕ) (node : Inner (
 -- of a node and of all below it
 abbrev pub BPlusNodes : Kind → (root : Bool) → (levels : ℕ) → Tree levels → Type 0
 BPlusNodes kind root zero leaf = BPlusLeaf kind root leaf
-BPlusNodes kind root (suc levels) node = BPlusInner kind root levels node × All (BPlusNodes kind false levels) (children_of node)
+BPlusNodes kind root (suc levels) node = BPlusInner kind root levels node × AllByRecursion (BPlusNodes kind false levels) (children_of node)
 
 -- how many levels below the root each leaf lies, from left to right
 abbrev pub leaf_depths : (levels : ℕ) → Tree levels → List ℕ
@@ -53,7 +53,7 @@ leaf_depths (suc levels) node = map suc (each_child (leaf_depths levels) node)
 pub record BPlusTree (kind : Kind) (levels : ℕ) (tree : Tree levels) : Type 0 where
   pub every_node_keeps_the_rules : BPlusNodes kind true levels tree
   pub each_leaf_has_a_depth : length (leaf_depths levels tree) ≡ length (leaves_of levels tree)
-  pub leaves_are_equally_deep : All (λ depth. depth ≡ levels) (leaf_depths levels tree)
+  pub leaves_are_equally_deep : AllByRecursion (λ depth. depth ≡ levels) (leaf_depths levels tree)
   pub keys_rise_from_leaf_to_leaf : Rise kind None (keys_of levels tree)
   pub leaves_are_linked : Linked (leaves_of levels tree)
 

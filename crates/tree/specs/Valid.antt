@@ -1,6 +1,6 @@
 -- The valid tree: a relation between the pages of a store, a key kind and the entries that the pages hold.
 use Rattle.std.specs.Prelude.{◌≡◌, ℕ, zero, suc, ◌+◌, ◌<◌, ◌≤◌, Bool, true, false, cond, List, [], ◌∷◌, ◌++◌, map, length, Some, None, sum_by, Option, nat_lt, slice_index_or}
-use Rattle.std.specs.List.{flat_map, AllByRecursion as All}
+use Rattle.std.specs.List.{flat_map, AllByRecursion}
 use Rattle.page_store.specs.Meanings.{Page, Live, Gone}
 use Rattle.nodes.specs.Layout.{HeaderPage, InnerPage, InnerRow, LeafPage, LeafEntry, RecordPage, FreePage, header_image, inner_image, leaf_image, record_image, free_image}
 use Rattle.keys.specs.Kinds.{Kind, Field, below}
@@ -42,7 +42,7 @@ entry_in entry = record { key = entry.key; inline = entry.inline; head = head_of
 abbrev pub SpellLeaf : Pages → Leaf → Type 0
 SpellLeaf pages leaf =
     Holds pages leaf.page (leaf_image (record { next = leaf.next; entries = map entry_in leaf.entries }))
-    × All (λ (entry : EntryAt). SpellChain pages entry.records) leaf.entries
+    × AllByRecursion (λ (entry : EntryAt). SpellChain pages entry.records) leaf.entries
 
 -- each node's page holds the node, and so do those of its children
 abbrev pub Spell : Pages → (levels : ℕ) → Tree levels → Type 0
@@ -50,7 +50,7 @@ Spell pages zero leaf = SpellLeaf pages leaf
 Spell pages (suc levels) node =
     Holds pages node.page (inner_image (record { first = root_of levels node.first; rows = map (λ branch. record { key = branch.key; child = root_of levels branch.child }) node.rest }))
     × Spell pages levels node.first
-    × All (λ branch. Spell pages levels branch.child) node.rest
+    × AllByRecursion (λ branch. Spell pages levels branch.child) node.rest
 
 -- 8 to 16 children, as root 2 to 16; 4 to 8 entries, as root 0 to 8
 abbrev pub fewest_children : (root : Bool) → ℕ
@@ -64,7 +64,7 @@ Sized root zero leaf = (fewest_entries root ≤ length leaf.entries) × (length 
 Sized root (suc levels) node =
     (fewest_children root ≤ 1 + length node.rest) × (1 + length node.rest ≤ 16)
     × Sized false levels node.first
-    × All (λ branch. Sized false levels branch.child) node.rest
+    × AllByRecursion (λ branch. Sized false levels branch.child) node.rest
 
 -- lawful fields that rise strictly
 abbrev pub Rise : Kind → (before : Option Field) → List Field → Type 0
@@ -81,7 +81,7 @@ Below kind None key = Unit {0}
 Below kind (Some bound) key = below kind key bound ≡ true
 
 abbrev pub Between : Kind → (low high : Option Field) → List Field → Type 0
-Between kind low high keys = All (λ key. From kind low key × Below kind high key) keys
+Between kind low high keys = AllByRecursion (λ key. From kind low key × Below kind high key) keys
 
 -- each child holds, at every depth, just keys from the separator left of it up to but not including the one right of it
 abbrev pub InRange : {X : Type 0} → Kind → (X → List Field) → (low : Option Field) → X → List (Branch X) → Type 0
@@ -95,7 +95,7 @@ Ordered kind (suc levels) node =
     Rise kind None (map (λ branch. branch.key) node.rest)
     × InRange kind (keys_of levels) None node.first node.rest
     × Ordered kind levels node.first
-    × All (λ branch. Ordered kind levels branch.child) node.rest
+    × AllByRecursion (λ branch. Ordered kind levels branch.child) node.rest
 
 -- the page of the next leaf, and 0 past the last
 abbrev pub next_leaf : List Leaf → ℕ
@@ -114,10 +114,10 @@ postings_at entry = entry.inline ++ flat_map (λ (r : RecordAt). r.postings) ent
 -- 0 to 3 inline postings, records of 1 to 60, at least one posting in all, none twice, each a posting number
 pub record EntryFits (entry : EntryAt) : Type 0 where
   pub at_most_3_inline : length entry.inline ≤ 3
-  pub records_hold_1_to_60 : All (λ (r : RecordAt). (1 ≤ length r.postings) × (length r.postings ≤ 60)) entry.records
+  pub records_hold_1_to_60 : AllByRecursion (λ (r : RecordAt). (1 ≤ length r.postings) × (length r.postings ≤ 60)) entry.records
   pub at_least_one_posting : 1 ≤ length (postings_at entry)
   pub no_number_twice : (n : ℕ) → count n (postings_at entry) ≤ 1
-  pub are_posting_numbers : All PostingNumber (postings_at entry)
+  pub are_posting_numbers : AllByRecursion PostingNumber (postings_at entry)
 
 -- every page that is reached from the header: the header, nodes, records and free pages
 abbrev pub reached_pages : (levels : ℕ) → Tree levels → (free : List ℕ) → List ℕ
@@ -135,6 +135,6 @@ pub record Valid (kind : Kind) (pages : Pages) (entries : Entries) : Type 0 wher
   pub sizes_fit : Sized true levels tree
   pub keys_are_in_order : Ordered kind levels tree
   pub leaves_are_linked : Linked (leaves_of levels tree)
-  pub entries_fit : All EntryFits (entries_of levels tree)
+  pub entries_fit : AllByRecursion EntryFits (entries_of levels tree)
   pub each_page_is_reached_once : (page : ℕ) → count page (reached_pages levels tree free) ≡ cond (nat_lt page (length pages)) 1 0
   pub holds_the_entries : held_by levels tree ≡ entries
