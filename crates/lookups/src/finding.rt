@@ -7,6 +7,7 @@ ghost use Rattle.book.specs.Entries.{Entries};
 ghost use Rattle.tree.specs.Trees.{EntryAt};
 ghost use Rattle.tree.specs.Valid.{entry_in, Valid};
 ghost use Rattle.searching.specs.Descents.{Arrives};
+ghost use Rattle.searching.specs.NodeReads.{RefusesOnlyDamage};
 ghost use Rattle.searching.specs.Chains.{ChainFrom};
 ghost use Rattle.page_store.specs.Meanings.{count_of};
 ghost use Rattle.lookups.specs.Showing.{FoundEntry, EntryShown, Shown};
@@ -60,6 +61,7 @@ fn show_entry<S: PageStore>(
 ) -> Result<Looked, Refusal>
     requires was_found_in_few_reads { reads ≤ 6 }
     ensures keeps_the_meaning { S.PageStore.meaning store.new ≡ S.PageStore.meaning store.old }
+    ensures refuses_only_damage { RefusesOnlyDamage result }
     ensures shows_the_entry { (found : EntryAt) → entry_of entry.now ≡ entry_in found → ChainFrom (S.PageStore.meaning store.old).pages (entry_in found).head found.records → length found.records ≤ count_of (S.PageStore.meaning store.old) → MatchResult result (λ looked. EntryShown found reads list.old looked list.new) (λ _. ⊥) }
 {
     let inline_count = entry.inline_count;
@@ -77,6 +79,7 @@ pub(crate) fn look_in_leaf<S: PageStore, K: KeyKind>(
 ) -> Result<Looked, Refusal>
     requires was_found_in_few_reads { descent.now.reads ≤ 6 }
     ensures keeps_the_meaning { S.PageStore.meaning store.new ≡ S.PageStore.meaning store.old }
+    ensures refuses_only_damage { RefusesOnlyDamage result }
     ensures shows_what_the_tree_holds { (entries : Entries) (valid : Valid K.KeyKind.kind (S.PageStore.meaning store.old).pages entries) → count_of (S.PageStore.meaning store.old) ≤ 65536 → K.KeyKind.kind.lawful key.now ≡ true → Arrives valid key.now descent.now → MatchResult result (λ looked. Shown valid key.now list.old looked list.new) (λ _. ⊥) }
 {
     let Some(entry) = entry_of(&descent.leaf, key) else {

@@ -3,6 +3,7 @@
 ghost use Rattle.std.specs.Prelude.{◌≡◌, ◌+◌, ◌*◌, ◌^◌, ◌<◌, ◌≤◌, ◌&&◌, List, length, take, IfOk, MatchResult, nat_lt};
 ghost use Rattle.page_store.specs.Meanings.{count_of};
 ghost use Rattle.tree.specs.Trees.{RecordAt};
+ghost use Rattle.searching.specs.NodeReads.{RefusesOnlyDamage};
 ghost use Rattle.searching.specs.Chains.{ChainFrom};
 ghost use Rattle.lookups.specs.Pouring.{poured, ChainPoured};
 
@@ -59,6 +60,7 @@ pub(crate) fn pour_chain<S: PageStore>(
 ) -> Result<ChainEnd, Refusal>
     requires begins_at_an_inline_count { place ≤ 3 }
     ensures keeps_the_meaning { S.PageStore.meaning store.new ≡ S.PageStore.meaning store.old }
+    ensures refuses_only_damage { RefusesOnlyDamage result }
     ensures counts_at_most_every_page { IfOk result (λ end. end.records ≤ 65536) }
     ensures pours_the_chain { (records : List RecordAt) → ChainFrom (S.PageStore.meaning store.old).pages head records → length records ≤ count_of (S.PageStore.meaning store.old) → MatchResult result (λ end. ChainPoured place records list.old end list.new) (λ _. ⊥) }
 {

@@ -14,6 +14,7 @@ returns g c =
     let entry = c.args.entry.now in
     record {
       keeps_the_meaning = c.pour_chain.ensures.keeps_the_meaning;
+      refuses_only_damage = tt;
       shows_the_entry = λ found is chain few.
           let head : entry.head ≡ head_of found.records = ap (λ (e : LeafEntry). e.head) is in
           let from = subst (λ (n : ℕ). ChainFrom (g.S.PageStore.meaning c.args.store.now).pages n found.records) (sym head) chain in

@@ -7,6 +7,6 @@ use Rattle.lookups.proofs.pouring.pour.Goals.{then-place-k, else-place-k}
 pub loop-k-preserved : goal.loop-k-preserved
 loop-k-preserved c =
     elim c.if-place-k.branch [
-      | then-place-k w ↦ w.list_is ∙ poured_here c.args.place c.loop-k.k c.args.postings.now c.args.list.now c.loop-k.list (let h = c.loop-k-test.true in let p = c.requires.are_there in omega arith) c.loop-k.invariant
-      | else-place-k w ↦ w.list_is ∙ poured_past c.args.place c.loop-k.k c.args.postings.now c.args.list.now c.loop-k.list (let h = c.loop-k-test.true in let p = c.requires.are_there in omega arith) c.loop-k.invariant w.if-place-k.false
+      | then-place-k w ↦ w.list-is ∙ poured_here c.args.place c.loop-k.k c.args.postings.now c.args.list.now c.loop-k.list (let h = c.loop-k-test.true in let p = c.requires.are_there in omega arith) c.loop-k.invariant
+      | else-place-k w ↦ w.list-is ∙ poured_past c.args.place c.loop-k.k c.args.postings.now c.args.list.now c.loop-k.list (let h = c.loop-k-test.true in let p = c.requires.are_there in omega arith) c.loop-k.invariant w.if-place-k.false
     ]
