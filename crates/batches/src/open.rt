@@ -4,24 +4,25 @@ ghost use Rattle.batches.specs.Opening.{opens};
 /// A batch that opened, over its bytes. It ends merged or withdrawn; letting it go is refused.
 pub struct OpenBatch<'a> {
     pub(crate) bytes: &'a [u8],
+    pub(crate) ended: bool,
     ghost opened: { opens bytes.now ≡ true },
 }
 
 impl Drop for OpenBatch<'_> {
     fn drop(self)
-        requires is_merged_or_withdrawn { ⊥ }
+        requires is_merged_or_withdrawn { self.ended ≡ true }
     {
-        let OpenBatch { bytes: _ } = self;
+        let OpenBatch { bytes: _, ended: _ } = self;
     }
 }
 
 impl<'a> OpenBatch<'a> {
     // Spends the batch: only a merge and a withdrawal do.
-    pub(crate) fn spend(self) -> &'a [u8]
+    pub(crate) fn spend(mut self) -> &'a [u8]
         ensures are_its_bytes { result ≡ self.entry.bytes }
         ensures opened { opens result.now ≡ true }
     {
-        let OpenBatch { bytes } = self;
-        bytes
+        self.ended = true;
+        self.bytes
     }
 }

@@ -1,4 +1,4 @@
-ghost use Rattle.std.specs.Prelude.{◌≡◌, ◌≤◌, true, length};
+ghost use Rattle.std.specs.Prelude.{◌≡◌, ◌≤◌, true, false, length};
 ghost use Rattle.std.specs.List.{slice_get};
 ghost use Rattle.batches.specs.Layout.{lines_of};
 ghost use Rattle.batches.specs.Reading.{kind_code, rows_in};
@@ -23,8 +23,12 @@ impl<'a> OpenBatch<'a> {
     pub fn make(bytes: &'a [u8]) -> OpenBatch<'a>
         requires was_checked { opens bytes.now ≡ true }
         ensures is_over_these_bytes { result.bytes ≡ bytes.entry }
+        ensures is_neither_merged_nor_withdrawn { result.ended ≡ false }
     {
-        OpenBatch { bytes }
+        OpenBatch {
+            bytes,
+            ended: false,
+        }
     }
 
     /// The bytes, as they were handed in.

@@ -8,7 +8,7 @@ use Rattle.keys.specs.Words.{letter, lawful_word}
 use Rattle.keys.specs.WordLaws.{lawful_padded}
 use Rattle.narration.specs.declared.Token.{Token}
 use Rattle.narration.specs.declared.Token.TheVariants.{Word, Gap}
-use Rattle.narration.specs.Letters.{mapped, in_word, all_in_word, is_aWord, key_of, fixed_table}
+use Rattle.narration.specs.Letters.{mapped, in_word, all_in_word, is_a_word, key_of, fixed_table}
 use Rattle.narration.specs.Tokens.{part_of, place_of, is_word, LongestRun, WordsHaveKeys}
 use Rattle.narration.proofs.EachEntry.{at_each}
 
@@ -38,7 +38,7 @@ module _ (table : List ℕ) where
       let both = and_parts (in_word table b) (all_in_word table bs) e in
       (lettered b both.0, letters_all lettered bs both.1)
 
-  pub key_lawful : Lettered table → (word : List ℕ) → is_aWord table word ≡ true → lawful_word (key_of table word) ≡ true
+  pub key_lawful : Lettered table → (word : List ℕ) → is_a_word table word ≡ true → lawful_word (key_of table word) ≡ true
   key_lawful lettered word e =
       let both = and_parts (ltb 0 (length word)) (all_in_word table word) e in
       let some = ltb-true 0 (length word) both.0 in
@@ -50,7 +50,7 @@ module _ (table : List ℕ) where
   all_in_from (b ∷ bs) h = and_from (in_word table b) (all_in_word table bs) (h 0 (omega arith)) (all_in_from bs (λ k l. h (suc k) (omega arith)))
 
   -- the part of a word that a reader hands out is a word
-  word_is_a_word : (narration : List ℕ) (token : Token) → LongestRun table narration token → is_word token ≡ true → is_aWord table (part_of token) ≡ true
+  word_is_a_word : (narration : List ℕ) (token : Token) → LongestRun table narration token → is_word token ≡ true → is_a_word table (part_of token) ≡ true
   word_is_a_word narration token run e =
       and_from (ltb 0 (length (part_of token))) (all_in_word table (part_of token)) (lt-ltb 0 (length (part_of token)) run.has_a_byte)
       (all_in_from (part_of token) each)

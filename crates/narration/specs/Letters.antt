@@ -16,8 +16,8 @@ all_in_word table [] = true
 all_in_word table (b ∷ bs) = in_word table b && all_in_word table bs
 
 -- whether bytes are a word: at least one, and each belongs to a word
-abbrev pub is_aWord : (table : List ℕ) → List ℕ → Bool
-is_aWord table bytes = nat_lt 0 (length bytes) && all_in_word table bytes
+abbrev pub is_a_word : (table : List ℕ) → List ℕ → Bool
+is_a_word table bytes = nat_lt 0 (length bytes) && all_in_word table bytes
 
 -- the key of a word: its first 24 letters, then zeros
 abbrev pub key_of : (table : List ℕ) → (word : List ℕ) → Field

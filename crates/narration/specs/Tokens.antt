@@ -5,7 +5,7 @@ use Rattle.keys.specs.Kinds.{Field}
 use Rattle.narration.specs.declared.Token.{Token}
 use Rattle.narration.specs.declared.Token.TheVariants.{Word, Gap}
 use Rattle.narration.specs.declared.reader.Reader.{Reader}
-use Rattle.narration.specs.Letters.{in_word, is_aWord, key_of}
+use Rattle.narration.specs.Letters.{in_word, is_a_word, key_of}
 use Rattle.narration.specs.Turns.{Turn}
 
 abbrev pub text : Reader → List ℕ
@@ -28,7 +28,7 @@ end_of token = place_of token + length (part_of token)
 
 -- the key of a token: that of its part where it is a word
 abbrev pub key_of_token : (table : List ℕ) → Token → Option Field
-key_of_token table (Word part place) = cond (is_aWord table part.now) (Some (key_of table part.now)) None
+key_of_token table (Word part place) = cond (is_a_word table part.now) (Some (key_of table part.now)) None
 key_of_token table (Gap part place) = None
 
 -- a token covers a part of the narration whose bytes are all of its sort, and that cannot be made longer on either side

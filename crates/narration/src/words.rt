@@ -2,7 +2,7 @@
 
 ghost use Rattle.std.specs.Prelude.{◌≡◌, ◌<◌, true, if◌then◌else◌, Some, None};
 ghost use Rattle.keys.specs.BuiltIn.{word_kind};
-ghost use Rattle.narration.specs.Letters.{is_aWord, all_in_word, key_of, fixed_table};
+ghost use Rattle.narration.specs.Letters.{is_a_word, all_in_word, key_of, fixed_table};
 ghost use Rattle.narration.specs.Tokens.{WordsHaveKeys};
 
 use crate::table::{in_word, letter};
@@ -32,7 +32,7 @@ fn first_letters(word: &[u8]) -> [u8; 24]
 
 /// The key of a word is a lawful field of kind 1. Calling this does nothing.
 fn key_is_lawful(word: &[u8])
-    requires is_a_word { is_aWord fixed_table word.now ≡ true }
+    requires is_a_word { is_a_word fixed_table word.now ≡ true }
     ensures holds { word_kind.lawful (key_of fixed_table word.now) ≡ true }
 {}
 
@@ -43,7 +43,7 @@ pub(crate) fn words_have_keys()
 
 /// The key of a word, and nothing for bytes that are no word.
 pub(crate) fn word_key(word: &[u8]) -> Option<[u8; 24]>
-    ensures is_the_key_of_a_word { result ≡ (if is_aWord fixed_table word.now then Some (key_of fixed_table word.now) else None) }
+    ensures is_the_key_of_a_word { result ≡ (if is_a_word fixed_table word.now then Some (key_of fixed_table word.now) else None) }
     ensures is_lawful_for_words { elim result [ Some key ↦ word_kind.lawful key ≡ true | None ↦ Unit {0} ] }
 {
     if word.len() > 0 && are_in_word(word) {
