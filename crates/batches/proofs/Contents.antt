@@ -1,9 +1,9 @@
 -- The rows of a file one by one. Assumes nothing.
-use Rattle.std.proofs.Common.{◌≡◌, ℕ, zero, suc, ◌+◌, ◌*◌, ◌<◌, ◌≤◌, Bool, true, false, cond, ◌&&◌, eqb, ltb, List, [], ◌∷◌, length, get_or, take, drop, sym, refl, ap, ◌∙◌, arith}
+use Rattle.std.proofs.Common.{◌≡◌, ℕ, ◌+◌, ◌*◌, ◌<◌, ◌≤◌, false, ◌&&◌, eqb, ltb, List, [], ◌∷◌, drop, ap, ◌∙◌, arith}
 use Rattle.std.proofs.lemmas.List.{drop_more, drop_all}
 use Rattle.std.proofs.lemmas.Bool.Decides.{nat_tests}
 use Rattle.numbers.specs.BigEndian.{part, number_at}
-use Rattle.batches.specs.Reading.{Content, content_of, contents_in, row_count, line_count}
+use Rattle.batches.specs.Reading.{Content, content_of, contents_in, row_count}
 use Rattle.batches.specs.Opening.{follow}
 use Rattle.batches.proofs.Pieces.{length_contents, get_d_contents}
 

@@ -1,16 +1,16 @@
 -- A file that was written from rows is cut back into them. Assumes nothing.
-use Rattle.std.proofs.Common.{◌≡◌, ℕ, zero, suc, ◌+◌, ◌-◌, ◌*◌, ◌^◌, ◌<◌, ◌≤◌, Bool, true, false, cond, ◌&&◌, ◌||◌, eqb, ltb, leb, List, [], ◌∷◌, ◌++◌, map, length, get_or, take, drop, sym, refl, ap, ◌∙◌, subst, zero-add, mul-suc, arith, length-append, lt-ltb, eq-eqb, le-leb}
+use Rattle.std.proofs.Common.{◌≡◌, ℕ, suc, ◌+◌, ◌*◌, ◌^◌, ◌<◌, ◌≤◌, true, cond, eqb, List, [], ◌∷◌, ◌++◌, map, length, take, drop, sym, refl, ap, ◌∙◌, zero-add, mul-suc, arith, length-append, lt-ltb, eq-eqb, le-leb}
 use Rattle.std.proofs.lemmas.List.{take_at, drop_at, drop-drop, append_assoc, append-nil, map-append, length-map}
 use Rattle.std.specs.List.{flat_map as joined, AllByRecursion}
-use Rattle.numbers.specs.BigEndian.{number_of, bytes_of, Bytes, part, number_at}
+use Rattle.numbers.specs.BigEndian.{bytes_of, number_at}
 use Rattle.numbers.proofs.Spelling.{length_bytes_of, number_bytes_of, number_between}
-use Rattle.refusals.specs.Refusals.{Answer, Accepted, Refused, wants, and_then}
+use Rattle.refusals.specs.Refusals.{Accepted}
 use Rattle.batches.specs.declared.line.Sign.{Sign}
 use Rattle.batches.specs.declared.line.Sign.TheVariants.{Posting, Cancelling}
 use Rattle.batches.specs.declared.line.Line.{Line}
-use Rattle.batches.specs.Layout.{Row, sign_byte, lines_of, line_bytes, row_bytes, rows_bytes, head_bytes, file_of, Rising, RowFits, FileFits, HasLayout}
-use Rattle.batches.specs.Reading.{kind_code, row_count, line_count, pieces, Content, content_of, contents_in, Cell, cell_of, cells_in, line_of, rows_of, rows_in}
-use Rattle.batches.specs.Opening.{has_letters, counts_fit, length_fits, follow, has_sign, good_cell, row_answer, lines_answer, open_answer, opens}
+use Rattle.batches.specs.Layout.{Row, sign_byte, lines_of, line_bytes, row_bytes, rows_bytes, head_bytes, file_of, Rising, RowFits, FileFits}
+use Rattle.batches.specs.Reading.{row_count, line_count, pieces, Content, content_of, contents_in, Cell, cell_of, cells_in, line_of, rows_of, rows_in}
+use Rattle.batches.specs.Opening.{has_letters, counts_fit, length_fits, follow, has_sign, row_answer, lines_answer, open_answer}
 use Rattle.batches.proofs.Steps.{comes_to_the_lines}
 
 -- what rows look like as they stand

@@ -1,7 +1,7 @@
 -- The keys of a batch row by row. Assumes nothing.
-use Rattle.std.proofs.Common.{◌≡◌, ℕ, zero, suc, ◌+◌, ◌<◌, ◌≤◌, Bool, true, false, ◌&&◌, List, [], ◌∷◌, length, get_or, drop, Some, None, Option, sym, refl, ap, ◌∙◌, add-one, arith}
+use Rattle.std.proofs.Common.{◌≡◌, ℕ, suc, ◌+◌, ◌<◌, ◌≤◌, Bool, true, false, ◌&&◌, List, length, get_or, drop, Some, Option, sym, ap, ◌∙◌, add-one}
 use Rattle.std.proofs.lemmas.List.{drop_more, drop_all}
-use Rattle.refusals.specs.Refusals.{Answer, Accepted, Refused, wants, and_then}
+use Rattle.refusals.specs.Refusals.{Accepted, Refused, wants, and_then}
 use Rattle.keys.specs.Kinds.{Kind, Field}
 use Rattle.batches.specs.Layout.{Row}
 use Rattle.batches.specs.Rows.{no_row}

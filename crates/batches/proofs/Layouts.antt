@@ -1,10 +1,10 @@
 -- Bytes open exactly if they have the layout. Assumes nothing.
-use Rattle.std.proofs.Common.{◌≡◌, ℕ, Bool, true, false, List, Decides, sym, refl, ap, ◌∙◌, subst}
-use Rattle.refusals.specs.Refusals.{Answer, Accepted, is_accepted}
+use Rattle.std.proofs.Common.{◌≡◌, ℕ, List, Decides, ap, ◌∙◌}
+use Rattle.refusals.specs.Refusals.{Accepted, is_accepted}
 use Rattle.refusals.proofs.Answering.{accepted_from_test}
 use Rattle.numbers.specs.BigEndian.{Bytes}
-use Rattle.batches.specs.Layout.{file_of, HasLayout}
-use Rattle.batches.specs.Opening.{open_answer, opens}
+use Rattle.batches.specs.Layout.{HasLayout}
+use Rattle.batches.specs.Opening.{open_answer}
 use Rattle.batches.proofs.Filing.{file_opens}
 use Rattle.batches.proofs.Refiling.{has_layout}
 

@@ -1,10 +1,9 @@
 -- What is known of bytes that open. Assumes nothing.
-use Rattle.std.proofs.Common.{◌≡◌, ℕ, zero, suc, ◌+◌, ◌-◌, ◌*◌, ◌^◌, ◌<◌, ◌≤◌, Bool, true, false, ◌&&◌, ltb, List, [], ◌∷◌, ◌++◌, map, length, get_or, take, drop, sym, refl, ap, ◌∙◌, arith, ltb-true, eqb-true}
+use Rattle.std.proofs.Common.{◌≡◌, ℕ, zero, suc, ◌+◌, ◌*◌, ◌^◌, ◌<◌, ◌≤◌, true, ◌&&◌, ltb, List, [], ◌∷◌, map, length, take, drop, sym, refl, ap, ◌∙◌, arith, ltb-true, eqb-true}
 use Rattle.std.proofs.lemmas.List.{map-append, length-map, length-drop, take-append-drop, nil_from_length}
-use Rattle.refusals.specs.Refusals.{Answer, Accepted, Refused, wants, and_then}
+use Rattle.refusals.specs.Refusals.{Answer, Accepted, wants, and_then}
 use Rattle.refusals.proofs.Answering.{met_from_accepted, first_accepted, rest_accepted}
-use Rattle.batches.specs.declared.line.Line.{Line}
-use Rattle.batches.specs.Layout.{Row, lines_of}
+use Rattle.batches.specs.Layout.{lines_of}
 use Rattle.batches.specs.Reading.{row_count, line_count, Content, contents_in, Cell, cells_in, line_of, rows_of, rows_in}
 use Rattle.std.specs.List.{AllByRecursion}
 use Rattle.batches.specs.Opening.{has_sign, good_cell, row_answer, has_letters, counts_fit, length_fits, follow, lines_answer, open_answer}

@@ -1,8 +1,8 @@
 -- A file cut into pieces of one width. Assumes nothing.
-use Rattle.std.proofs.Common.{◌≡◌, ℕ, zero, suc, ◌+◌, ◌-◌, ◌*◌, ◌<◌, ◌≤◌, List, [], ◌∷◌, ◌++◌, map, length, get_or, take, drop, sym, refl, ap, ◌∙◌, mul-suc, arith}
-use Rattle.std.proofs.lemmas.List.{drop-drop, get_or-map, length-map, length-take, length-drop}
+use Rattle.std.proofs.Common.{◌≡◌, ℕ, zero, suc, ◌+◌, ◌*◌, ◌<◌, List, [], length, get_or, drop, refl, ap, ◌∙◌, mul-suc, arith}
+use Rattle.std.proofs.lemmas.List.{drop-drop, get_or-map, length-map}
 use Rattle.numbers.specs.BigEndian.{part}
-use Rattle.batches.specs.Reading.{pieces, Content, content_of, contents_in, row_count, Cell, cell_of, cells_in, line_count}
+use Rattle.batches.specs.Reading.{pieces, content_of, contents_in, row_count, cell_of, cells_in, line_count}
 
 pub length_pieces : (width count : ℕ) (bytes : List ℕ) → length (pieces width count bytes) ≡ count
 length_pieces width zero bytes = refl

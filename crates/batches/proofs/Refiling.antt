@@ -1,21 +1,19 @@
 -- Bytes that open are the file of the rows that they hold. Assumes nothing.
-use Rattle.std.proofs.Common.{◌≡◌, ℕ, zero, suc, ◌+◌, ◌-◌, ◌*◌, ◌^◌, ◌<◌, ◌≤◌, Bool, true, false, cond, ◌&&◌, ◌||◌, eqb, ltb, leb, List, [], ◌∷◌, ◌++◌, map, length, get_or, take, drop, sym, refl, ap, ◌∙◌, subst, mul-zero, zero-add, mul-suc, arith, length-append, take-add, ltb-true, eqb-true, leb-true}
-use Rattle.std.proofs.lemmas.List.{take_at, drop_at, drop-drop, append_assoc, append-nil, map-append, length-map, length-take, length-drop, take-append-drop, nil_from_length, length-take-le, take_all}
+use Rattle.std.proofs.Common.{◌≡◌, ℕ, zero, suc, ◌+◌, ◌*◌, ◌≤◌, Bool, true, false, cond, eqb, List, [], ◌∷◌, ◌++◌, map, length, get_or, take, drop, sym, refl, ap, ◌∙◌, mul-zero, mul-suc, arith, take-add, eqb-true}
+use Rattle.std.proofs.lemmas.List.{drop-drop, length-map, length-drop, take-append-drop, length-take-le, take_all}
 use Rattle.std.specs.List.{flat_map, AllByRecursion}
-use Rattle.numbers.specs.BigEndian.{number_of, bytes_of, Bytes, part, number_at}
+use Rattle.numbers.specs.BigEndian.{bytes_of, Bytes, part, number_at}
 use Rattle.std.proofs.lemmas.Bool.Decides.{nat_tests}
-use Rattle.batches.proofs.Pieces.{length_contents, length_cells}
-use Rattle.numbers.proofs.Spelling.{byte_at, length_bytes_of, bytes_of_number, length_part, number_is}
-use Rattle.refusals.proofs.Answering.{met_from_accepted, first_accepted, rest_accepted}
-use Rattle.refusals.specs.Refusals.{Answer, Accepted, Refused, wants, and_then}
-use Rattle.batches.specs.declared.line.Sign.{Sign}
+use Rattle.batches.proofs.Pieces.{length_cells}
+use Rattle.numbers.proofs.Spelling.{byte_at, bytes_of_number, length_part, number_is}
+use Rattle.refusals.specs.Refusals.{Accepted}
 use Rattle.batches.specs.declared.line.Sign.TheVariants.{Posting, Cancelling}
 use Rattle.batches.specs.declared.line.Line.{Line}
-use Rattle.batches.specs.Layout.{Row, sign_byte, lines_of, line_bytes, row_bytes, rows_bytes, head_bytes, file_of, Rising, RowFits, FileFits, HasLayout}
-use Rattle.batches.specs.Reading.{kind_code, row_count, line_count, pieces, Content, content_of, contents_in, Cell, cell_of, cells_in, line_of, rows_of, rows_in}
-use Rattle.batches.specs.Opening.{has_letters, counts_fit, length_fits, follow, has_sign, good_cell, row_answer, lines_answer, open_answer, opens}
-use Rattle.batches.proofs.Opened.{above_of_good, below_of_good, Signed, good_first, good_rest, first_row, other_rows, signed, enough, left, letters, counts, long, follows, lines_good, rows_length, row_count_is_told, lines_are, line_count_is_told}
-use Rattle.batches.proofs.Steps.{and_left, and_right, follow_parts, follow_bound, length_is, few_rows, few_lines}
+use Rattle.batches.specs.Layout.{sign_byte, lines_of, line_bytes, row_bytes, rows_bytes, head_bytes, file_of, Rising, RowFits, FileFits, HasLayout}
+use Rattle.batches.specs.Reading.{kind_code, row_count, line_count, pieces, content_of, contents_in, Cell, cell_of, cells_in, line_of, rows_of, rows_in}
+use Rattle.batches.specs.Opening.{follow, has_sign, row_answer, lines_answer, open_answer}
+use Rattle.batches.proofs.Opened.{above_of_good, below_of_good, Signed, good_first, good_rest, first_row, other_rows, signed, enough, left, letters, counts, follows, lines_good, rows_length, row_count_is_told, lines_are, line_count_is_told}
+use Rattle.batches.proofs.Steps.{follow_parts, few_rows, few_lines}
 use Rattle.numbers.proofs.Reading.{cells, part_cells}
 
 -- pieces put together again

@@ -1,15 +1,15 @@
 -- The reversal of a file is the file of the reversed rows. Assumes nothing.
-use Rattle.std.proofs.Common.{◌≡◌, ℕ, zero, suc, ◌+◌, ◌-◌, ◌*◌, ◌^◌, ◌<◌, ◌≤◌, Bool, true, false, cond, eqb, List, [], ◌∷◌, ◌++◌, map, length, get_or, take, drop, set, sym, refl, ap, ◌∙◌, subst, mul-suc, arith, length-append}
+use Rattle.std.proofs.Common.{◌≡◌, ℕ, zero, suc, ◌+◌, ◌-◌, ◌*◌, ◌<◌, ◌≤◌, List, [], ◌∷◌, ◌++◌, map, length, get_or, take, drop, set, sym, refl, ap, ◌∙◌, mul-suc, arith, length-append}
 use Rattle.std.proofs.lemmas.List.{take_at, drop_at, drop-drop, set_at, get_or_at, append_assoc, append-nil, map-append, length-map, length-take-le, length-drop, take-append-drop, drop_all}
 use Rattle.std.specs.List.{flat_map, AllByRecursion}
 use Rattle.numbers.specs.BigEndian.{bytes_of}
-use Rattle.refusals.specs.Refusals.{Answer, Accepted, is_accepted}
+use Rattle.refusals.specs.Refusals.{is_accepted}
 use Rattle.batches.specs.declared.line.Sign.{Sign}
 use Rattle.batches.specs.declared.line.Sign.TheVariants.{Posting, Cancelling}
 use Rattle.batches.specs.declared.line.Line.{Line}
-use Rattle.batches.specs.Layout.{Row, sign_byte, lines_of, line_bytes, row_bytes, rows_bytes, head_bytes, file_of, Rising, RowFits, FileFits, HasLayout}
+use Rattle.batches.specs.Layout.{Row, sign_byte, lines_of, line_bytes, rows_bytes, head_bytes, file_of, Rising, RowFits, FileFits, HasLayout}
 use Rattle.batches.specs.Reading.{kind_code, row_count, line_count, pieces, rows_in}
-use Rattle.batches.specs.Opening.{open_answer, opens}
+use Rattle.batches.specs.Opening.{opens}
 use Rattle.batches.specs.Reversal.{other_byte, turned, turned_from, reversal, other_sign, reversed_line, reversed_row, Reverses}
 use Rattle.batches.proofs.Filing.{count_rows, count_lines, length_head, length_rows, after_rows, length_line, rows_of_file, file_opens}
 

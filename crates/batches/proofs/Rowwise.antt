@@ -1,13 +1,13 @@
 -- Rows and lines of an open batch, by number. Assumes nothing.
-use Rattle.std.proofs.Common.{◌≡◌, ℕ, zero, suc, ◌+◌, ◌-◌, ◌*◌, ◌<◌, ◌≤◌, Bool, true, false, List, [], ◌∷◌, ◌++◌, map, length, get_or, take, drop, Some, None, Option, sym, refl, ap, ◌∙◌, arith, length-append}
+use Rattle.std.proofs.Common.{◌≡◌, ℕ, zero, suc, ◌+◌, ◌*◌, ◌<◌, ◌≤◌, true, List, [], ◌∷◌, map, length, get_or, take, drop, Some, None, sym, refl, ap, ◌∙◌, arith, length-append}
 use Rattle.std.specs.List.{slice_get}
 use Rattle.std.proofs.lemmas.Option.{slice_get-get_or, slice_get_past}
 use Rattle.std.proofs.lemmas.List.{length-map, get_or-map, length-take-le}
-use Rattle.refusals.specs.Refusals.{Answer, Accepted}
+use Rattle.refusals.specs.Refusals.{Accepted}
 use Rattle.refusals.proofs.Answering.{accepted_from_test}
 use Rattle.numbers.specs.BigEndian.{part, number_at}
 use Rattle.batches.specs.declared.line.Line.{Line}
-use Rattle.batches.specs.Layout.{Row, lines_of}
+use Rattle.batches.specs.Layout.{lines_of}
 use Rattle.batches.specs.Reading.{row_count, line_count, Content, content_of, contents_in, Cell, cell_of, cells_in, line_of, rows_of, rows_in}
 use Rattle.batches.specs.Opening.{follow, has_sign, open_answer, opens}
 use Rattle.batches.specs.Rows.{lines_before, no_row}

@@ -1,11 +1,11 @@
 -- The answer of opening, step by step and row by row. Assumes nothing.
-use Rattle.std.proofs.Common.{◌≡◌, ℕ, zero, suc, ◌+◌, ◌-◌, ◌*◌, ◌<◌, ◌≤◌, Bool, true, false, cond, ◌&&◌, eqb, ltb, List, [], ◌∷◌, length, get_or, take, drop, sym, refl, ap, ◌∙◌, arith, ltb-true, eqb-true}
+use Rattle.std.proofs.Common.{◌≡◌, ℕ, ◌+◌, ◌-◌, ◌*◌, ◌<◌, ◌≤◌, Bool, true, false, ◌&&◌, eqb, ltb, List, [], ◌∷◌, length, drop, sym, refl, ap, ◌∙◌, arith, ltb-true, eqb-true}
 use Rattle.std.proofs.lemmas.List.{drop-drop}
 use Rattle.std.proofs.lemmas.Bool.Decides.{nat_tests}
 use Rattle.std.specs.List.{between}
-use Rattle.refusals.specs.Refusals.{Answer, Accepted, Refused, wants, and_then}
+use Rattle.refusals.specs.Refusals.{Answer, Accepted, Refused, and_then}
 use Rattle.numbers.specs.BigEndian.{part, number_at}
-use Rattle.batches.specs.Reading.{Content, content_of, contents_in, Cell, cells_in, row_count, line_count}
+use Rattle.batches.specs.Reading.{Content, content_of, contents_in, cells_in, row_count, line_count}
 use Rattle.batches.specs.Opening.{has_letters, counts_fit, length_fits, follow, row_answer, lines_answer, open_answer}
 use Rattle.batches.proofs.Contents.{contents_step, contents_end}
 

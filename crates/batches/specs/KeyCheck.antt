@@ -1,5 +1,5 @@
 -- The check of a batch against a key kind, which needs no index: its kind code, then its keys.
-use Rattle.std.specs.Prelude.{ℕ, zero, suc, Bool, true, false, ◌&&◌, List, [], ◌∷◌, Some, None, Option, ◌==◌}
+use Rattle.std.specs.Prelude.{ℕ, zero, suc, Bool, true, ◌&&◌, List, [], ◌∷◌, Some, None, Option, ◌==◌}
 use Rattle.refusals.specs.Refusals.{Answer, Accepted, wants, and_then}
 use Rattle.keys.specs.Kinds.{Kind, Field, below}
 use Rattle.batches.specs.Layout.{Row}

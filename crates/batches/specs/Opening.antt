@@ -1,5 +1,5 @@
 -- What opening a batch answers: the first step of its form that fails, else its first bad line.
-use Rattle.std.specs.Prelude.{◌≡◌, ℕ, suc, ◌+◌, ◌*◌, ◌^◌, Bool, true, false, cond, ◌&&◌, ◌||◌, List, [], ◌∷◌, length, take, drop, ◌==◌, nat_le, nat_lt, slice_index}
+use Rattle.std.specs.Prelude.{ℕ, suc, ◌+◌, ◌*◌, ◌^◌, Bool, ◌&&◌, ◌||◌, List, [], ◌∷◌, length, take, drop, ◌==◌, nat_le, nat_lt, slice_index}
 use Rattle.refusals.specs.Refusals.{Answer, Accepted, wants, and_then, is_accepted}
 use Rattle.batches.specs.Reading.{row_count, line_count, Content, contents_in, Cell, cells_in, line_of}
 use Rattle.batches.specs.declared.line.Line.{Line}

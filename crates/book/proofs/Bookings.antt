@@ -1,10 +1,10 @@
 -- The lines of a batch under their keys: keys and numbers rise, so each key and number occurs once.
-use Rattle.std.proofs.Common.{◌≡◌, ℕ, suc, ◌+◌, ◌^◌, ◌<◌, ◌≤◌, Bool, true, false, cond, not, ◌&&◌, eqb, List, [], ◌∷◌, ◌++◌, map, Some, None, Option, sym, refl, ap, ◌∙◌, arith}
+use Rattle.std.proofs.Common.{◌≡◌, ℕ, suc, ◌+◌, ◌<◌, ◌≤◌, Bool, true, false, cond, not, ◌&&◌, eqb, List, [], ◌∷◌, ◌++◌, map, Some, None, Option, sym, refl, ap, ◌∙◌, arith}
 use Rattle.std.specs.Ordering.{is_eq}
-use Rattle.std.specs.List.{flat_map, AllByRecursion}
+use Rattle.std.specs.List.{AllByRecursion}
 use Rattle.std.proofs.lemmas.Bool.{true≢false, and_parts, eqb-true, eq-eqb}
 use Rattle.std.proofs.ByRecursion.{All-append, All-weaker}
-use Rattle.refusals.specs.Refusals.{Answer, Accepted, Refused, wants, and_then}
+use Rattle.refusals.specs.Refusals.{Accepted, wants, and_then}
 use Rattle.keys.specs.Kinds.{Kind, Field, below}
 use Rattle.keys.proofs.Orders.{below_transitive, below_irreflexive}
 use Rattle.batches.specs.declared.line.Sign.{Sign}

@@ -1,11 +1,11 @@
 -- What a change under one key does to a sorted list of keys: that key has the new value, every other what it had.
-use Rattle.std.proofs.Common.{◌≡◌, ℕ, Bool, true, false, cond, ◌⊎◌, List, [], ◌∷◌, ◌++◌, Some, None, Option, Ordering, Less, Equal, Greater, sym, refl, ap, ◌∙◌, subst, inl, inr}
+use Rattle.std.proofs.Common.{◌≡◌, Bool, true, false, cond, List, [], ◌∷◌, Some, None, Option, Ordering, Less, Equal, Greater, sym, refl, ap, ◌∙◌, subst}
 use Rattle.std.specs.Ordering.{is_eq}
 use Rattle.std.specs.List.{AllByRecursion}
 use Rattle.keys.specs.Kinds.{Kind, Field, below}
 use Rattle.keys.proofs.Orders.{order_same, same_from_order, less_from_below, below_from_less, below_from_greater, below_transitive}
 use Rattle.batches.specs.KeyCheck.{above}
-use Rattle.book.specs.Books.{Held, Keeping, by_order, value_at, put, changed, SortedFrom, Sorted}
+use Rattle.book.specs.Books.{Held, Keeping, by_order, value_at, put, changed, SortedFrom}
 
 -- a test of equality, from bytes
 pub equal_key : (kind : Kind) (a b : Field) → kind.lawful a ≡ true → a ≡ b → is_eq (kind.order a b) ≡ true

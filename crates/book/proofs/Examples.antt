@@ -1,4 +1,4 @@
-use Rattle.std.proofs.Common.{◌≡◌, refl}
+use Rattle.std.proofs.Common.{refl}
 use Rattle.keys.specs.Words.{letters_then_zeros}
 use Rattle.book.specs.Merging.{merge_answer}
 use Rattle.book.specs.Examples.{WorkedPostings}

@@ -1,16 +1,16 @@
 -- Lookups and listings: how much they write, and what a listing has of each key.
-use Rattle.std.proofs.Common.{◌≡◌, ℕ, zero, suc, ◌+◌, ◌-◌, ◌*◌, ◌/◌, ◌%◌, ◌<◌, ◌≤◌, min, Bool, true, false, cond, not, ◌&&◌, ◌⊎◌, List, [], ◌∷◌, ◌++◌, map, length, take, drop, Some, None, filter, Option, sym, refl, ap, ◌∙◌, subst, ⊎_elim, arith}
+use Rattle.std.proofs.Common.{◌≡◌, ℕ, ◌-◌, ◌*◌, ◌/◌, min, Bool, true, false, cond, not, ◌&&◌, List, [], ◌∷◌, ◌++◌, length, take, drop, Some, None, filter, Option, sym, refl, ap, ◌∙◌, ⊎_elim, arith}
 use Rattle.std.specs.Ordering.{is_eq}
 use Rattle.std.specs.List.{flat_map, AllByRecursion}
-use Rattle.std.proofs.lemmas.List.{length-take, length-drop, length-append, length-map, append-nil}
+use Rattle.std.proofs.lemmas.List.{length-take, length-drop, length-append, append-nil}
 use Rattle.std.proofs.ByRecursion.{All-append, All-weaker, All-take, All-drop}
 use Rattle.refusals.specs.Refusals.{Answer, Accepted, Refused, on_accepted}
 use Rattle.numbers.specs.BigEndian.{bytes_of}
 use Rattle.numbers.proofs.Spelling.{length_bytes_of}
 use Rattle.keys.specs.Kinds.{Kind, Field, below}
 use Rattle.keys.proofs.Orders.{above_or_same, below_transitive, below_irreflexive, below_asymmetric}
-use Rattle.book.specs.Books.{Held, Book, plain, value_at, postings_of, SortedFrom, Sorted}
-use Rattle.book.specs.Looking.{shown, list_after_lookup, Listed, rows_under, within, listed, listed_bytes, rows_shown, bounds_answer, buffer_with, buffer_after_list}
+use Rattle.book.specs.Books.{Held, Book, plain, value_at, postings_of, SortedFrom}
+use Rattle.book.specs.Looking.{Listed, rows_under, within, listed, listed_bytes, rows_shown, bounds_answer, buffer_with}
 use Rattle.book.specs.LookingLaws.{LookupsFillTheList, ListingsFillTheBuffer, numbers_under, InKeyOrder, ListingsShowTheBook}
 use Rattle.book.proofs.Changes.{equal_from, sorted_lower, absent}
 use Rattle.book.proofs.Plain.{plain_follows}

@@ -1,16 +1,16 @@
 -- The laws of merging: all or none, checked before, counting, reversal.
-use Rattle.std.proofs.Common.{◌≡◌, ℕ, suc, ◌+◌, ◌<◌, ◌≤◌, Bool, true, false, cond, not, ◌&&◌, eqb, List, [], ◌∷◌, ◌++◌, map, Some, None, Option, sym, refl, ap, ◌∙◌, subst, arith}
+use Rattle.std.proofs.Common.{◌≡◌, ℕ, ◌+◌, true, eqb, List, [], ◌∷◌, ◌++◌, map, None, refl, ap, ◌∙◌, arith}
 use Rattle.std.specs.List.{AllByRecursion}
 use Rattle.refusals.specs.Refusals.{Answer, Accepted, Refused, and_then, on_accepted}
 use Rattle.keys.specs.Kinds.{Kind, Field}
 use Rattle.batches.specs.Layout.{Row}
-use Rattle.batches.specs.KeyCheck.{keys_answer, kind_and_keys_answer}
+use Rattle.batches.specs.KeyCheck.{kind_and_keys_answer}
 use Rattle.batches.specs.Reversal.{reversed_row}
-use Rattle.book.specs.Books.{Held, Keeping, Book, plain, count, postings_of, Sorted, IsBook}
-use Rattle.book.specs.Merging.{Booking, lines_under, take_lines, lines_answer, lines_taken, posting_lines, posts_of, cancels_of, pages_answer, if_pages, merge_answer, check_answer, left, RowsRise}
-use Rattle.book.specs.Laws.{CheckedBeforeIsJudgedInTurn, MergesAreAllOrNone, BooksStayBooks, History, book_after, accepted_lines, AcceptedOn, AcceptedInTurn, Counted, PostingsAreCounted, Reversed, ReversalsRestore}
-use Rattle.book.proofs.Bookings.{KeysRise, keys_rise, rise_keys, accepted_keys, Once, Sound, once_rows, sound_rows, reversed_booking, reversed_rows, reversed_keys, reversed_rise, reversed_counts}
-use Rattle.book.proofs.Taking.{Follows, then_accepted, then_assoc, in_sequence, taken_is, lines_counts, lines_sorted, fit_taken, reversal_fits}
+use Rattle.book.specs.Books.{Held, Keeping, plain, count, postings_of, Sorted, IsBook}
+use Rattle.book.specs.Merging.{Booking, lines_under, take_lines, lines_answer, lines_taken, posting_lines, posts_of, cancels_of, pages_answer, if_pages, merge_answer, check_answer, left}
+use Rattle.book.specs.Laws.{CheckedBeforeIsJudgedInTurn, MergesAreAllOrNone, BooksStayBooks, History, book_after, accepted_lines, AcceptedInTurn, PostingsAreCounted, ReversalsRestore}
+use Rattle.book.proofs.Bookings.{KeysRise, rise_keys, accepted_keys, Once, Sound, once_rows, sound_rows, reversed_rows, reversed_keys, reversed_rise, reversed_counts}
+use Rattle.book.proofs.Taking.{Follows, then_accepted, in_sequence, taken_is, lines_counts, fit_taken, reversal_fits}
 use Rattle.book.proofs.Plain.{plain_follows, book_postings, lines_book, empty_book}
 
 -- an accepted merge, taken apart

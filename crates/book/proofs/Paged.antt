@@ -1,25 +1,24 @@
 -- Entries follow their lines, keep to the sizes, and spell the book.
-use Rattle.std.proofs.Common.{◌≡◌, ℕ, suc, ◌+◌, ◌*◌, ◌<◌, ◌≤◌, Bool, true, false, cond, not, ◌&&◌, ltb, leb, ◌⊎◌, List, [], ◌∷◌, ◌++◌, map, length, Some, None, Option, Ordering, Less, Equal, Greater, sym, refl, ap, ◌∙◌, subst, inl, inr, arith}
+use Rattle.std.proofs.Common.{◌≡◌, ℕ, suc, ◌*◌, ◌≤◌, Bool, true, false, cond, ◌&&◌, ltb, leb, List, [], ◌∷◌, ◌++◌, length, None, Ordering, Less, Equal, Greater, sym, refl, ap, ◌∙◌, arith}
 use Rattle.std.specs.Ordering.{is_eq}
 use Rattle.std.specs.List.{flat_map, AllByRecursion}
-use Rattle.std.proofs.lemmas.Bool.{true≢false, and_parts, ltb-true, ltb-false, leb-true, leb-false}
-use Rattle.std.proofs.lemmas.List.{append_assoc, append-nil, length-append}
+use Rattle.std.proofs.lemmas.Bool.{true≢false, and_parts, ltb-true, ltb-false, leb-true}
+use Rattle.std.proofs.lemmas.List.{append_assoc, length-append}
 use Rattle.refusals.specs.Refusals.{Answer, Accepted, Refused, wants, and_then}
 use Rattle.keys.specs.Kinds.{Kind, Field}
-use Rattle.batches.specs.Layout.{Row}
 use Rattle.batches.specs.KeyCheck.{kind_and_keys_answer}
 use Rattle.batches.specs.declared.line.Sign.{Sign}
 use Rattle.batches.specs.declared.line.Sign.TheVariants.{Posting, Cancelling}
-use Rattle.book.specs.Books.{Held, Keeping, Book, plain, by_order, count, has, without, no_postings, value_at, put, changed, Sorted}
-use Rattle.book.specs.Merging.{Booking, lines_under, standing, applied, line_answer, line_taken, take_lines, posting_lines, if_pages, merge_answer}
+use Rattle.book.specs.Books.{Held, Book, plain, by_order, count, has, without, no_postings, value_at, put, changed, Sorted}
+use Rattle.book.specs.Merging.{Booking, lines_under, applied, line_answer, line_taken, take_lines, posting_lines, if_pages, merge_answer}
 use Rattle.book.specs.Entries.{Entry, Entries, postings_in, no_records, is_empty, moved, posted_in, kept, without_in, cancelled_in, paged, book_of, Sizes, EntryFits, EntriesFit}
 use Rattle.book.specs.Laws.{spelled, EntriesMergeAsTheirBook, EntriesStayFitting}
-use Rattle.book.proofs.Counting.{one, has_yes, has_not, count_without, without_front, without_back, length_without_le}
+use Rattle.book.proofs.Counting.{has_yes, has_not, count_without, without_front, without_back, length_without_le}
 use Rattle.book.proofs.Changes.{changed_all}
 use Rattle.book.proofs.Bookings.{accepted_keys, lawful_lines}
 use Rattle.book.proofs.Taking.{Follows, then_accepted, line_sorted}
 use Rattle.book.proofs.Plain.{value_all, all_weaken}
-use Rattle.book.proofs.Merges.{Merged, merged}
+use Rattle.book.proofs.Merges.{merged}
 
 no_postings_is_empty : (ps : List ℕ) → no_postings ps ≡ true → ps ≡ []
 no_postings_is_empty [] e = refl

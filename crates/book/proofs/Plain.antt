@@ -1,15 +1,15 @@
 -- The plain book follows its lines, and stays a book.
-use Rattle.std.proofs.Common.{◌≡◌, ℕ, suc, ◌+◌, ◌<◌, ◌≤◌, Bool, true, false, cond, not, ◌&&◌, ◌⊎◌, List, [], ◌∷◌, ◌++◌, map, length, Some, None, Option, sym, refl, ap, ◌∙◌, subst, inl, inr, arith}
+use Rattle.std.proofs.Common.{◌≡◌, ℕ, suc, ◌+◌, ◌≤◌, Bool, true, false, cond, ◌⊎◌, List, [], ◌∷◌, length, None, refl, subst, inl, inr, arith}
 use Rattle.std.specs.Ordering.{is_eq}
 use Rattle.std.specs.List.{AllByRecursion}
 use Rattle.std.proofs.lemmas.Bool.{cases_eq, true≢false}
-use Rattle.refusals.specs.Refusals.{Answer, Accepted, Refused}
+use Rattle.refusals.specs.Refusals.{Accepted}
 use Rattle.keys.specs.Kinds.{Kind, Field}
 use Rattle.batches.specs.declared.line.Sign.{Sign}
 use Rattle.batches.specs.declared.line.Sign.TheVariants.{Posting, Cancelling}
-use Rattle.book.specs.Books.{Held, Keeping, Book, plain, count, has, without, no_postings, value_at, postings_of, Sorted, PostingNumber, Postings, IsBook}
-use Rattle.book.specs.Merging.{Booking, standing, applied, line_answer, line_taken, take_lines, is_posting}
-use Rattle.book.proofs.Counting.{one, one_le, one_same, one_other, has_yes, has_not, count_without, all_without}
+use Rattle.book.specs.Books.{Held, Keeping, Book, plain, count, has, no_postings, value_at, postings_of, PostingNumber, Postings, IsBook}
+use Rattle.book.specs.Merging.{Booking, standing, applied, line_answer, line_taken, take_lines}
+use Rattle.book.proofs.Counting.{one, one_le, one_other, has_yes, has_not, count_without, all_without}
 use Rattle.book.proofs.Changes.{changed_all}
 use Rattle.book.proofs.Bookings.{Sound}
 use Rattle.book.proofs.Taking.{Follows, then_accepted, line_sorted, stands}

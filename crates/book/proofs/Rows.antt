@@ -1,24 +1,24 @@
 -- A row is one change under its key; a batch of postings on the empty book gives its rows.
-use Rattle.std.proofs.Common.{◌≡◌, ℕ, suc, ◌+◌, ◌<◌, ◌≤◌, Bool, true, false, cond, not, ◌&&◌, List, [], ◌∷◌, ◌++◌, map, reverse, length, Some, None, Option, Ordering, Less, Equal, Greater, sym, refl, ap, ◌∙◌, subst, arith}
+use Rattle.std.proofs.Common.{◌≡◌, ℕ, suc, ◌+◌, ◌<◌, Bool, true, false, cond, List, [], ◌∷◌, ◌++◌, map, length, Some, None, Option, Ordering, Less, Equal, Greater, sym, refl, ap, ◌∙◌, subst, arith}
 use mathlib.Core.List.{reverse_aux}
-use Rattle.std.specs.Ordering.{is_eq, is_lt}
+use Rattle.std.specs.Ordering.{is_lt}
 use Rattle.std.specs.List.{AllByRecursion}
 use Rattle.std.proofs.ByRecursion.{All-push, All-weaker}
 use Rattle.std.proofs.lemmas.List.{append_assoc, append-nil, length-map}
 use Rattle.refusals.specs.Refusals.{Answer, Accepted, Refused, wants, and_then}
 use Rattle.keys.specs.Kinds.{Kind, Field, below}
-use Rattle.keys.proofs.Orders.{order_same, order_self, same_from_order, less_from_below, greater_from_below, below_transitive}
+use Rattle.keys.proofs.Orders.{order_self, same_from_order, less_from_below, greater_from_below, below_transitive}
 use Rattle.batches.specs.declared.line.Sign.{Sign}
 use Rattle.batches.specs.declared.line.Sign.TheVariants.{Posting, Cancelling}
 use Rattle.batches.specs.declared.line.Line.{Line}
 use Rattle.batches.specs.Layout.{Row}
 use Rattle.batches.specs.KeyCheck.{above, kind_and_keys_answer}
-use Rattle.book.specs.Books.{Held, Keeping, Book, plain, by_order, value_at, put, changed, SortedFrom, Sorted}
-use Rattle.book.specs.Merging.{Booking, bookings_of, lines_under, standing, applied, line_taken, lines_answer, lines_taken, is_posting, posting_lines, pages_answer, merge_answer, check_answer, RowsRise}
+use Rattle.book.specs.Books.{Held, Keeping, Book, plain, by_order, put, changed, SortedFrom, Sorted}
+use Rattle.book.specs.Merging.{Booking, bookings_of, lines_under, standing, applied, line_taken, lines_answer, lines_taken, is_posting, posting_lines, pages_answer, check_answer}
 use Rattle.book.specs.Laws.{all_applied, ARowIsOneChange, no_cancelling, as_held, MergedIntoTheEmptyBook}
 use Rattle.book.proofs.Changes.{changed_sorted}
 use Rattle.book.proofs.Bookings.{KeysRise, accepted_keys}
-use Rattle.book.proofs.Taking.{Follows, then_accepted, then_assoc}
+use Rattle.book.proofs.Taking.{Follows, then_assoc}
 use Rattle.book.proofs.Plain.{plain_follows}
 use Rattle.book.proofs.Merges.{checked_before}
 

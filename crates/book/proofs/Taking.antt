@@ -1,5 +1,5 @@
 -- What lines do, over any way of keeping postings whose postings follow the signs.
-use Rattle.std.proofs.Common.{◌≡◌, ℕ, suc, ◌+◌, ◌<◌, ◌≤◌, Bool, true, false, cond, not, ◌&&◌, eqb, leb, List, [], ◌∷◌, ◌++◌, map, Some, None, Option, sym, refl, ap, ◌∙◌, subst, arith}
+use Rattle.std.proofs.Common.{◌≡◌, ℕ, suc, ◌+◌, ◌≤◌, Bool, true, false, not, ◌&&◌, eqb, leb, List, [], ◌∷◌, map, None, sym, refl, ap, ◌∙◌, arith}
 use Rattle.std.specs.Ordering.{is_eq}
 use Rattle.std.specs.List.{AllByRecursion}
 use Rattle.std.proofs.lemmas.Bool.{true≢false, leb-true, leb-false, le-leb, lt-leb}
@@ -8,11 +8,11 @@ use Rattle.keys.specs.Kinds.{Kind, Field}
 use Rattle.batches.specs.declared.line.Sign.{Sign}
 use Rattle.batches.specs.declared.line.Sign.TheVariants.{Posting, Cancelling}
 use Rattle.batches.specs.Reversal.{other_sign}
-use Rattle.book.specs.Books.{Held, Keeping, count, has, value_at, changed, Sorted}
+use Rattle.book.specs.Books.{Held, Keeping, count, has, value_at, Sorted}
 use Rattle.book.specs.Merging.{Booking, standing, applied, line_answer, line_taken, take_lines, lines_answer, lines_taken, is_posting, names, posts_of, cancels_of}
-use Rattle.book.proofs.Counting.{one, one_same, one_other, has_yes, has_not, has_counted, lacks_counted, has_same}
+use Rattle.book.proofs.Counting.{one, has_yes, has_same}
 use Rattle.book.proofs.Changes.{changed_sorted, changed_here, changed_elsewhere, equal_key, equal_from}
-use Rattle.book.proofs.Bookings.{Once, Other, Sound, tally, counts_share, named, names_itself, at_most_once, reversed_booking, reversed_counts}
+use Rattle.book.proofs.Bookings.{Once, Other, Sound, tally, counts_share, named, names_itself, at_most_once, reversed_booking}
 
 -- what a way of keeping owes
 pub record Follows {V : Type 0} (keeping : Keeping V) : Type 0 where

@@ -1,8 +1,7 @@
 -- The entry of a key as pages hold it: up to three inline postings, the newest, then a chain of records.
-use Rattle.std.specs.Prelude.{◌≡◌, ℕ, ◌≤◌, Bool, true, false, cond, ◌&&◌, List, [], ◌∷◌, ◌++◌, map, length, nat_le, nat_lt}
+use Rattle.std.specs.Prelude.{ℕ, ◌≤◌, Bool, true, false, cond, ◌&&◌, List, [], ◌∷◌, ◌++◌, map, length, nat_le, nat_lt}
 use Rattle.std.specs.List.{flat_map, AllByRecursion}
-use Rattle.keys.specs.Kinds.{Kind}
-use Rattle.book.specs.Books.{Held, Keeping, Book, has, without, no_postings, Sorted}
+use Rattle.book.specs.Books.{Held, Keeping, Book, has, without, no_postings}
 
 pub record Entry : Type 0 where
   pub inline : List ℕ

@@ -1,17 +1,16 @@
 -- Worked postings, as the definitions answer them: under the word rent with 62 free pages, unless said otherwise.
-use Rattle.std.specs.Prelude.{◌≡◌, ℕ, List, [], ◌∷◌, ◌++◌, map, length, replicate, codes, refl}
+use Rattle.std.specs.Prelude.{◌≡◌, ℕ, List, [], ◌∷◌, ◌++◌, map, codes}
 use Rattle.std.specs.List.{range_with_len}
 use Rattle.refusals.specs.Refusals.{Answer, Accepted, Refused}
-use Rattle.keys.specs.Kinds.{Kind, Field}
+use Rattle.keys.specs.Kinds.{Field}
 use Rattle.keys.specs.Words.{padded}
 use Rattle.keys.specs.BuiltIn.{word_kind}
-use Rattle.batches.specs.declared.line.Sign.{Sign}
 use Rattle.batches.specs.declared.line.Sign.TheVariants.{Posting, Cancelling}
 use Rattle.batches.specs.declared.line.Line.{Line}
 use Rattle.batches.specs.Layout.{Row}
-use Rattle.book.specs.Books.{Held, Book, plain}
+use Rattle.book.specs.Books.{Book, plain}
 use Rattle.book.specs.Merging.{merge_answer}
-use Rattle.book.specs.Entries.{Entry, Entries, posted_in, cancelled_in, paged}
+use Rattle.book.specs.Entries.{posted_in, cancelled_in, paged}
 
 abbrev pub rent : Field
 rent = padded (codes "rent")

@@ -1,5 +1,5 @@
 -- The laws of merging, over every kind, book and batch.
-use Rattle.std.specs.Prelude.{◌≡◌, ℕ, suc, ◌+◌, ◌<◌, ◌≤◌, Bool, true, false, cond, List, [], ◌∷◌, ◌++◌, map, reverse, length}
+use Rattle.std.specs.Prelude.{◌≡◌, ℕ, suc, ◌+◌, ◌<◌, ◌≤◌, true, List, [], ◌∷◌, ◌++◌, map, reverse, length}
 use Rattle.std.specs.List.{AllByRecursion}
 use Rattle.refusals.specs.Refusals.{Answer, Accepted, Refused, wants, and_then, on_accepted}
 use Rattle.keys.specs.Kinds.{Kind, Field}
@@ -9,7 +9,7 @@ use Rattle.batches.specs.KeyCheck.{kind_and_keys_answer}
 use Rattle.batches.specs.Reversal.{reversed_row}
 use Rattle.book.specs.Books.{Held, Keeping, Book, plain, count, changed, postings_of, Sorted, IsBook}
 use Rattle.book.specs.Merging.{Booking, bookings_of, lines_under, applied, lines_taken, is_posting, posting_lines, posts_of, cancels_of, pages_answer, merge_answer, check_answer, left, RowsRise}
-use Rattle.book.specs.Entries.{Entry, Entries, paged, book_of, EntriesFit}
+use Rattle.book.specs.Entries.{Entries, paged, book_of, EntriesFit}
 
 -- Lines judged in turn, each on what those before it left, and lines judged on what was held before all of them are
 -- answered alike: a merge is its check, and then all its lines.

@@ -1,5 +1,5 @@
 -- What lookups and listings show of a book.
-use Rattle.std.specs.Prelude.{◌≡◌, ℕ, ◌*◌, ◌/◌, min, Bool, true, false, cond, not, ◌&&◌, List, [], ◌∷◌, ◌++◌, map, length, take, drop, filter}
+use Rattle.std.specs.Prelude.{ℕ, ◌*◌, ◌/◌, Bool, cond, not, ◌&&◌, List, ◌++◌, map, length, take, drop, filter}
 use Rattle.std.specs.List.{flat_map}
 use Rattle.refusals.specs.Refusals.{Answer, Accepted, wants, and_then, on_accepted}
 use Rattle.numbers.specs.BigEndian.{bytes_of}

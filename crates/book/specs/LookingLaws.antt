@@ -1,5 +1,5 @@
 -- The laws of lookups and listings.
-use Rattle.std.specs.Prelude.{◌≡◌, ℕ, ◌-◌, ◌/◌, min, Bool, true, false, cond, List, [], ◌∷◌, map, length, filter}
+use Rattle.std.specs.Prelude.{◌≡◌, ℕ, ◌-◌, ◌/◌, min, true, false, cond, List, [], ◌∷◌, map, length, filter}
 use Rattle.std.specs.Ordering.{is_eq}
 use Rattle.std.specs.List.{AllByRecursion}
 use Rattle.keys.specs.Kinds.{Kind, Field, below}

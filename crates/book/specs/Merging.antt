@@ -1,5 +1,5 @@
 -- Merging a batch: what each line does, when it is refused, and the order of the refusals.
-use Rattle.std.specs.Prelude.{◌≡◌, ℕ, suc, ◌+◌, ◌*◌, Bool, true, false, cond, not, ◌&&◌, List, [], ◌∷◌, ◌++◌, map, ◌==◌, nat_le}
+use Rattle.std.specs.Prelude.{ℕ, suc, ◌+◌, ◌*◌, Bool, true, false, cond, not, ◌&&◌, List, [], ◌∷◌, map, ◌==◌, nat_le}
 use Rattle.std.specs.Ordering.{is_eq}
 use Rattle.std.specs.List.{flat_map, AllByRecursion}
 use Rattle.refusals.specs.Refusals.{Answer, Accepted, Refused, wants, and_then}
@@ -7,9 +7,9 @@ use Rattle.keys.specs.Kinds.{Kind, Field}
 use Rattle.batches.specs.declared.line.Sign.{Sign}
 use Rattle.batches.specs.declared.line.Sign.TheVariants.{Posting, Cancelling}
 use Rattle.batches.specs.declared.line.Line.{Line}
-use Rattle.batches.specs.Layout.{Row, Rising, lines_of}
+use Rattle.batches.specs.Layout.{Row, Rising}
 use Rattle.batches.specs.KeyCheck.{kind_and_keys_answer}
-use Rattle.book.specs.Books.{Held, Keeping, Book, plain, has, value_at, changed}
+use Rattle.book.specs.Books.{Held, Keeping, has, value_at, changed}
 
 -- a line under the key of its row
 pub record Booking : Type 0 where

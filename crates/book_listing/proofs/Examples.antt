@@ -1,4 +1,4 @@
-use Rattle.std.proofs.Common.{◌≡◌, refl}
+use Rattle.std.proofs.Common.{refl}
 use Rattle.std.specs.Fmt.{digits}
 use Rattle.numbers.specs.BigEndian.{number_at}
 use Rattle.keys.specs.Words.{letters_then_zeros}

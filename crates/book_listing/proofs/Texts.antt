@@ -1,15 +1,14 @@
 -- The text of a batch of postings: it is that of its book, and 364 bytes hold it. Assumes nothing.
-use Rattle.std.proofs.Common.{◌≡◌, ℕ, zero, suc, ◌+◌, ◌-◌, ◌*◌, ◌^◌, ◌<◌, ◌≤◌, List, [], ◌∷◌, ◌++◌, map, reverse, length, get_or, take, drop, decimal, sym, refl, ap, ◌∙◌, subst, mul-suc, mul-add, arith, lit<, lit≤}
+use Rattle.std.proofs.Common.{◌≡◌, ℕ, zero, suc, ◌+◌, ◌-◌, ◌*◌, ◌^◌, ◌<◌, ◌≤◌, List, [], ◌∷◌, ◌++◌, map, reverse, length, get_or, take, decimal, sym, refl, ap, ◌∙◌, subst, mul-suc, mul-add, arith, lit<}
 use mathlib.Core.List.{reverse_aux}
 use Rattle.std.specs.List.{flat_map, AllByRecursion}
 use Rattle.std.proofs.lemmas.Fmt.{decimal_digit, length-decimal-le}
 use Rattle.std.proofs.lemmas.List.{append_assoc, length-append, length-map, length-reverse, get_or-reverse, get_or-map, get_or_append_left, get_or-append-add, get_or_past, take_all}
-use Rattle.refusals.specs.Refusals.{Answer, Accepted}
+use Rattle.refusals.specs.Refusals.{Accepted}
 use Rattle.batches.specs.declared.line.Sign.TheVariants.{Posting}
 use Rattle.batches.specs.declared.line.Line.{Line}
 use Rattle.batches.specs.Layout.{Row, lines_of, Rising, RowFits}
 use Rattle.batches.specs.Rows.{lines_before, no_row}
-use Rattle.book.specs.Books.{Held, Book}
 use Rattle.book.specs.Looking.{Listed, rows_under}
 use Rattle.book.specs.Laws.{as_held}
 use Rattle.book_listing.specs.Text.{text_line, until_zero, all_rows, row_text, text_of}

@@ -1,16 +1,16 @@
 -- No word lies below the lowest or above the highest. Assumes nothing.
-use Rattle.std.proofs.Common.{◌≡◌, ℕ, zero, suc, ◌+◌, ◌-◌, ◌<◌, ◌≤◌, Bool, true, false, cond, not, ◌&&◌, ◌||◌, ltb, leb, List, [], ◌∷◌, ◌++◌, length, replicate, Some, None, filter, Option, Ordering, Equal, Greater, sym, refl, ap, ◌∙◌, subst, ⊎_elim, arith}
+use Rattle.std.proofs.Common.{◌≡◌, ℕ, zero, suc, ◌-◌, ◌≤◌, Bool, true, false, cond, not, ◌&&◌, ltb, leb, List, [], ◌∷◌, ◌++◌, length, replicate, Some, None, filter, Option, Ordering, Equal, Greater, sym, refl, ap, ◌∙◌, subst, ⊎_elim, arith}
 use Rattle.std.specs.Ordering.{is_lt, ordering_then}
 use Rattle.std.specs.List.{flat_map, AllByRecursion}
 use Rattle.std.proofs.ByRecursion.{All-append, All-weaker}
 use Rattle.std.proofs.lemmas.List.{length-append, length-replicate}
 use Rattle.std.proofs.lemmas.Bool.{le-ltb, leb-true, and_parts, or_cases}
-use Rattle.keys.specs.Kinds.{Kind, Field}
+use Rattle.keys.specs.Kinds.{Field}
 use Rattle.keys.specs.Fields.{by_number, by_bytes}
 use Rattle.keys.specs.Words.{letter, padded, letters_then_zeros, lawful_word}
 use Rattle.keys.specs.WordLaws.{word_from_lawful, word_has_24}
 use Rattle.keys.specs.BuiltIn.{word_kind}
-use Rattle.book.specs.Books.{Held, Book, SortedFrom, Sorted}
+use Rattle.book.specs.Books.{Held, Book, SortedFrom}
 use Rattle.book.specs.Looking.{rows_under, within}
 use Rattle.book_listing.specs.Whole.{lowest_word, highest_word, ListsAll}
 

@@ -1,5 +1,5 @@
 -- What booklist prints: the answer to merging its input into a new index over 64 pages, and the listing of all of it.
-use Rattle.std.specs.Prelude.{ℕ, Bool, true, false, cond, List, [], ◌∷◌, ◌++◌, length, drop, decimal, ◌==◌, nat_le}
+use Rattle.std.specs.Prelude.{ℕ, cond, List, [], ◌∷◌, ◌++◌, length, drop, decimal, ◌==◌, nat_le}
 use Rattle.std.specs.List.{flat_map}
 use Rattle.refusals.specs.Refusals.{Answer, Accepted, Refused, wants, and_then}
 use Rattle.keys.specs.BuiltIn.{word_kind}

@@ -1,6 +1,6 @@
 -- That booklist lists all of a book.
-use Rattle.std.specs.Prelude.{◌≡◌, ℕ, Bool, true, replicate, codes}
-use Rattle.keys.specs.Kinds.{Kind, Field}
+use Rattle.std.specs.Prelude.{◌≡◌, true, replicate, codes}
+use Rattle.keys.specs.Kinds.{Field}
 use Rattle.keys.specs.Words.{padded}
 use Rattle.keys.specs.BuiltIn.{word_kind}
 use Rattle.book.specs.Books.{Book, Sorted}

@@ -1,5 +1,5 @@
 -- What the steps of writing a listing leave: for functions that the crate keeps to itself.
-use Rattle.std.specs.Prelude.{ℕ, ◌+◌, List, [], ◌∷◌, ◌++◌, length, take, drop, decimal}
+use Rattle.std.specs.Prelude.{ℕ, ◌+◌, List, ◌++◌, length, take, drop, decimal}
 use Rattle.std.specs.List.{flat_map}
 use Rattle.refusals.specs.Refusals.{Answer, Accepted, Refused, and_then}
 use Rattle.keys.specs.BuiltIn.{word_kind}

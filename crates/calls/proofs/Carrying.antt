@@ -18,7 +18,6 @@ use Rattle.calls.specs.States.{State, state_of, pages_of, free_in}
 use Rattle.calls.specs.Merges.{judgement, merged, Merges, MergesBytes}
 use Rattle.calls.specs.Standing.{AcceptedBatches, history_of, book_of_batches, TreeOf, Restores, LastCanBeReversed, Standing}
 use Rattle.calls.specs.Making.{Makes}
-use Rattle.calls.specs.Opening.{Opens}
 use Rattle.calls.specs.Runs.{Making, Opening, Merging, LookingUp, Listing, Settling, if_accepted, StandingIsCarriedOn}
 use Rattle.calls.proofs.Reversing.{reversal_opens, reversal_keeps_the_kind, reversal_rows}
 use Rattle.calls.proofs.Accepting.{merged_as_book, accepted_kind, merged_book, accepted_on, only_for_pages}

@@ -1,5 +1,5 @@
 -- List: a row for each posting of the keys from one to another.
-use Rattle.std.specs.Prelude.{◌≡◌, ℕ, Bool, true, false, List, length}
+use Rattle.std.specs.Prelude.{◌≡◌, ℕ, true, false, List, length}
 use Rattle.refusals.specs.Refusals.{Answer, Accepted, Refused}
 use Rattle.keys.specs.Kinds.{Kind, Field}
 use Rattle.book.specs.Books.{Book}

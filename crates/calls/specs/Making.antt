@@ -1,5 +1,5 @@
 -- Make: an empty tree over whatever stood on the pages.
-use Rattle.std.specs.Prelude.{◌≡◌, ℕ, ◌<◌, ◌≤◌, true, []}
+use Rattle.std.specs.Prelude.{◌≡◌, ◌<◌, ◌≤◌, true, []}
 use Rattle.refusals.specs.Refusals.{Answer, Accepted, Refused, on_accepted}
 use Rattle.page_store.specs.Meanings.{Meaning, count_of}
 use Rattle.keys.specs.Kinds.{Kind}

@@ -1,15 +1,14 @@
 -- Merge: a call that judges an open batch and changes nothing, then one that takes the batch and carries out its lines.
-use Rattle.std.specs.Prelude.{◌≡◌, ℕ, Bool, true, List, [], length}
+use Rattle.std.specs.Prelude.{◌≡◌, ℕ, Bool, List, [], length}
 use Rattle.refusals.specs.Refusals.{Answer, Accepted, Refused, wants, and_then}
 use Rattle.page_store.specs.Meanings.{count_of}
 use Rattle.keys.specs.Kinds.{Kind}
-use Rattle.batches.specs.Layout.{Row}
 use Rattle.batches.specs.Reading.{kind_code, rows_in}
 use Rattle.batches.specs.Opening.{open_answer}
 use Rattle.batches.specs.KeyCheck.{kind_and_keys_answer}
 use Rattle.book.specs.Merging.{lines_under, lines_taken, check_answer}
 use Rattle.book.specs.Entries.{Entries, paged}
-use Rattle.tree.specs.Valid.{Pages, Valid}
+use Rattle.tree.specs.Valid.{Valid}
 use Rattle.calls.specs.States.{State, pages_of, free_in}
 
 -- NOT OPEN, KIND and KEY, which no page is needed for

@@ -1,5 +1,5 @@
 -- Open: a survey of all pages, which accepts exactly the valid trees of the kind.
-use Rattle.std.specs.Prelude.{◌≡◌, ℕ, suc, Bool, true, cond, ◌||◌, ◌⊎◌, List, [], ◌∷◌, ◌++◌, map, length, drop, replicate, ◌==◌, nat_le, slice_index, slice_index_or}
+use Rattle.std.specs.Prelude.{◌≡◌, ℕ, suc, true, cond, ◌||◌, ◌⊎◌, List, [], ◌∷◌, ◌++◌, map, length, drop, replicate, ◌==◌, nat_le, slice_index, slice_index_or}
 use Rattle.refusals.specs.Refusals.{Answer, Accepted, Refused, wants, and_then, on_accepted}
 use Rattle.page_store.specs.Meanings.{Page, Live, Gone, bytes_or}
 use Rattle.keys.specs.Kinds.{Kind}

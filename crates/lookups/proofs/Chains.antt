@@ -1,10 +1,9 @@
 -- The walk along a chain. Assumes nothing.
-use Rattle.std.proofs.Common.{◌≡◌, ℕ, zero, suc, ◌+◌, ◌<◌, ◌≤◌, Bool, true, false, ◌&&◌, ltb, ◌⊎◌, List, [], ◌∷◌, ◌++◌, length, take, Ok, Err, Result, sym, refl, ap, ◌∙◌, subst, inl, inr, add-zero, arith, length-append, MatchResult}
-use Rattle.std.specs.List.{flat_map}
+use Rattle.std.proofs.Common.{◌≡◌, ℕ, ◌+◌, ◌<◌, ◌≤◌, Bool, true, false, ◌&&◌, ltb, ◌⊎◌, List, [], ◌∷◌, length, take, Ok, Err, Result, sym, ap, ◌∙◌, subst, inl, inr, arith, length-append}
 use Rattle.std.proofs.lemmas.List.{length-take-le}
 use Rattle.std.proofs.lemmas.Bool.{and_parts, and_from, ltb-true, lt-ltb, cases_lt}
 use Rattle.refusals.specs.declared.Refusal.{Refusal}
-use Rattle.page_store.specs.Meanings.{Meaning, count_of}
+use Rattle.page_store.specs.Meanings.{Meaning}
 use Rattle.nodes.specs.declared.records.Record.{Record}
 use Rattle.nodes.specs.Layout.{RecordPage, record_image, RecordFits}
 use Rattle.nodes.specs.Meanings.{record_of}

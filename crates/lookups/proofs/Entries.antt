@@ -1,20 +1,18 @@
 -- What is shown of an entry, and of a key in a valid tree. Assumes nothing.
-use Rattle.std.proofs.Common.{◌≡◌, ℕ, zero, suc, ◌+◌, ◌<◌, ◌≤◌, min, Bool, true, false, cond, List, [], ◌∷◌, ◌++◌, map, length, take, drop, sym, refl, ap, ◌∙◌, subst, arith, length-append}
-use Rattle.std.specs.Ordering.{is_eq}
+use Rattle.std.proofs.Common.{◌≡◌, ℕ, zero, suc, ◌+◌, ◌≤◌, min, Bool, true, cond, List, [], ◌∷◌, ◌++◌, map, length, take, drop, sym, refl, ap, ◌∙◌, arith, length-append}
 use Rattle.std.specs.List.{flat_map, AllByRecursion}
-use Rattle.std.proofs.lemmas.List.{length-map, length-take, length-take-le, map-append}
-use Rattle.keys.specs.Kinds.{Kind, Field, below}
-use Rattle.keys.proofs.Orders.{below_irreflexive}
+use Rattle.std.proofs.lemmas.List.{length-map, length-take, length-take-le}
+use Rattle.keys.specs.Kinds.{Kind, Field}
 use Rattle.nodes.specs.declared.entry.Entry.{Entry as EntryRead}
 use Rattle.nodes.specs.Layout.{LeafEntry}
 use Rattle.nodes.specs.Meanings.{entry_of}
-use Rattle.book.specs.Books.{Held, Keeping, value_at, postings_of}
+use Rattle.book.specs.Books.{value_at, postings_of}
 use Rattle.book.specs.Entries.{Entry, Entries, paged, postings_in, book_of}
 use Rattle.book.specs.Looking.{shown, list_after_lookup}
 use Rattle.book.proofs.Changes.{equal_key, other_key}
 use Rattle.book.proofs.Paged.{value_spelled}
-use Rattle.tree.specs.Trees.{RecordAt, EntryAt, Leaf, held}
-use Rattle.tree.specs.Valid.{Pages, entry_in, postings_at, Valid}
+use Rattle.tree.specs.Trees.{RecordAt, EntryAt, held}
+use Rattle.tree.specs.Valid.{entry_in, postings_at}
 use Rattle.calls.specs.declared.answers.Looked.{Looked}
 use Rattle.calls.specs.Lookups.{entry_at, looked_up}
 use Rattle.lookups.specs.declared.pouring.ChainEnd.{ChainEnd}

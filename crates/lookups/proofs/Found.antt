@@ -1,14 +1,13 @@
 -- The entry of a leaf that has a key. Assumes nothing.
-use Rattle.std.proofs.Common.{◌≡◌, ℕ, ◌+◌, ◌<◌, ◌≤◌, Bool, true, false, List, [], ◌∷◌, ◌++◌, map, length, get_or, take, drop, Decides, sym, refl, ap, ◌∙◌, subst, arith, take-append-drop}
-use Rattle.std.specs.List.{AllByRecursion}
-use Rattle.std.proofs.ByRecursion.{All-more, All-append}
-use Rattle.std.proofs.lemmas.List.{take_all, get_or-map, get_or-take, length-map, length-take-le}
+use Rattle.std.proofs.Common.{◌≡◌, ℕ, ◌+◌, ◌<◌, ◌≤◌, Bool, true, false, List, ◌∷◌, ◌++◌, map, length, get_or, take, drop, Decides, sym, ap, ◌∙◌, subst, arith, take-append-drop}
+use Rattle.std.proofs.ByRecursion.{All-more}
+use Rattle.std.proofs.lemmas.List.{take_all, get_or-map, get_or-take, length-take-le}
 use Rattle.keys.specs.Kinds.{Field}
 use Rattle.nodes.specs.declared.entry.Entry.{Entry}
 use Rattle.nodes.specs.Layout.{LeafEntry}
 use Rattle.nodes.specs.Meanings.{entry_of}
 use Rattle.searching.proofs.Choosing.{taken_there, length_taken}
-use Rattle.lookups.specs.Showing.{Lacks, FoundEntry}
+use Rattle.lookups.specs.Showing.{Lacks}
 
 module _ (key : Field) (entries : List Entry) (count i : ℕ) (d : Entry) (h : i < count) (fits : count ≤ length entries) (before : Lacks key (take i (map entry_of (take count entries)))) where
   element : get_or (map entry_of (take count entries)) i (entry_of d) ≡ entry_of (get_or entries i d)

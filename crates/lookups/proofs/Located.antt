@@ -1,5 +1,5 @@
 -- The entry of a key stands in the leaf that the way down arrives at, if it stands anywhere. Assumes nothing.
-use Rattle.std.proofs.Common.{◌≡◌, ℕ, ◌<◌, ◌≤◌, Bool, true, false, List, [], ◌∷◌, ◌++◌, map, length, Some, None, Result, sym, refl, ap, ◌∙◌, subst, append_assoc, append-nil, arith, MatchResult}
+use Rattle.std.proofs.Common.{◌≡◌, ℕ, ◌<◌, ◌≤◌, true, List, [], ◌∷◌, ◌++◌, map, length, Some, Result, sym, refl, ap, ◌∙◌, subst, append_assoc, append-nil, arith, MatchResult}
 use Rattle.std.specs.List.{flat_map, AllByRecursion}
 use Rattle.std.proofs.lemmas.Result.{MatchResult-weaker}
 use Rattle.refusals.specs.declared.Refusal.{Refusal}
@@ -8,16 +8,16 @@ use Rattle.keys.proofs.Orders.{below_irreflexive}
 use Rattle.nodes.specs.Layout.{LeafEntry, LeafPage}
 use Rattle.nodes.specs.Meanings.{leaf_of}
 use Rattle.book.specs.Books.{value_at}
-use Rattle.book.specs.Entries.{Entry, Entries, paged}
-use Rattle.tree.specs.Trees.{RecordAt, EntryAt, Leaf, leaves_of, entries_of, keys_of, held, chain_pages}
+use Rattle.book.specs.Entries.{Entries, paged}
+use Rattle.tree.specs.Trees.{EntryAt, Leaf, entries_of, held, chain_pages}
 use Rattle.tree.specs.Valid.{Pages, entry_in, head_of, SpellChain, Valid}
-use Rattle.tree.proofs.Everywhere.{all_front, all_back, all_unmapped, all_both}
+use Rattle.tree.proofs.Everywhere.{all_front, all_back, all_unmapped}
 use Rattle.tree.proofs.Fitting.{ChainFits, Linkable}
 use Rattle.calls.specs.declared.answers.Looked.{Looked}
 use Rattle.calls.specs.States.{height_of}
 use Rattle.calls.specs.Lookups.{entry_at}
 use Rattle.searching.specs.declared.arrival.Descent.{Descent}
-use Rattle.searching.specs.Descents.{keys_in, Arrives}
+use Rattle.searching.specs.Descents.{Arrives}
 use Rattle.searching.specs.Chains.{ChainFrom}
 use Rattle.searching.proofs.Picking.{joined_append}
 use Rattle.searching.proofs.Descending.{keys_lawful}

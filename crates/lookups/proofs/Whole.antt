@@ -2,7 +2,7 @@
 use Rattle.std.proofs.Common.{◌≡◌, ℕ, ◌≤◌, Bool, true, false, cond, List, length, Some, None, Ok, Err, Result, sym, refl, ap, ◌∙◌, subst, arith, MatchResult}
 use Rattle.std.proofs.lemmas.Result.{MatchResult-at_ok, MatchResult-at_err}
 use Rattle.refusals.specs.declared.Refusal.{Refusal}
-use Rattle.refusals.specs.Refusals.{Answer, Accepted, Refused, answer_of, number_of}
+use Rattle.refusals.specs.Refusals.{Accepted, Refused, answer_of, number_of}
 use Rattle.page_store.specs.Meanings.{Meaning, count_of}
 use Rattle.keys.specs.Kinds.{Kind, Field}
 use Rattle.book.specs.Entries.{Entries, book_of}

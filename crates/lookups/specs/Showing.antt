@@ -1,5 +1,5 @@
 -- What a lookup finds in a leaf and shows of an entry.
-use Rattle.std.specs.Prelude.{◌≡◌, ℕ, ◌+◌, List, [], ◌∷◌, ◌++◌, length, take, drop, Some, None, Option, ◌≢◌}
+use Rattle.std.specs.Prelude.{◌≡◌, ℕ, ◌+◌, List, ◌∷◌, ◌++◌, length, take, drop, Some, None, Option, ◌≢◌}
 use Rattle.std.specs.List.{AllByRecursion}
 use Rattle.keys.specs.Kinds.{Kind, Field}
 use Rattle.nodes.specs.Layout.{LeafEntry}

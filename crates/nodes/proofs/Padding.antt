@@ -1,10 +1,9 @@
 -- Bytes with zeros behind them, and more bytes written where the zeros begin. Assumes nothing.
-use Rattle.std.proofs.Common.{◌≡◌, ℕ, zero, suc, ◌+◌, ◌-◌, ◌*◌, ◌/◌, ◌%◌, ◌^◌, ◌<◌, ◌≤◌, Bool, true, false, cond, leb, List, [], ◌∷◌, ◌++◌, map, length, get_or, take, drop, replicate, sym, refl, ap, ◌∙◌, subst, mul-zero, mul-suc, add-one, arith, le-leb}
+use Rattle.std.proofs.Common.{◌≡◌, ℕ, zero, suc, ◌+◌, ◌-◌, ◌*◌, ◌/◌, ◌%◌, ◌<◌, ◌≤◌, Bool, cond, List, [], ◌∷◌, ◌++◌, length, get_or, take, drop, replicate, sym, refl, ap, ◌∙◌, subst, mul-zero, mul-suc, add-one, arith, le-leb}
 use native.Mathlib.Nat.{div-div-eq-div-mul, sub-zero}
-use Rattle.std.proofs.lemmas.List.{length-append, length-replicate, append_assoc, append-nil, take_at, drop_at, drop-drop, drop-replicate, replicate-append-replicate, length-take-le, take_more, nil_from_length, length_push, length-drop}
+use Rattle.std.proofs.lemmas.List.{length-append, length-replicate, append_assoc, append-nil, take_at, drop_at, drop-drop, drop-replicate, replicate-append-replicate, length-take-le, take_more, length_push, length-drop}
 use Rattle.std.specs.List.{flat_map, AllByRecursion}
 use Rattle.numbers.specs.BigEndian.{Bytes, bytes_of, written}
-use Rattle.numbers.proofs.Spelling.{length_bytes_of, bytes_bytes_of}
 use Rattle.nodes.specs.Layout.{padded}
 
 -- as the machine splits a number

@@ -1,7 +1,7 @@
 -- What the code reads is what stands in the bytes. Assumes nothing.
-use Rattle.std.proofs.Common.{◌≡◌, ℕ, ◌+◌, ◌-◌, min, max, List, [], ◌∷◌, ◌++◌, map, length, get_or, take, drop, sym, refl, ap, ◌∙◌, subst}
+use Rattle.std.proofs.Common.{◌≡◌, ℕ, ◌-◌, min, max, List, map, get_or, take, drop, sym, ap, ◌∙◌}
 use Rattle.numbers.specs.BigEndian.{number_of, part, number_at}
-use Rattle.nodes.specs.Layout.{HeaderPage, RecordPage, InnerRow, InnerPage, LeafEntry, LeafPage}
+use Rattle.nodes.specs.Layout.{InnerRow, LeafEntry}
 use Rattle.nodes.specs.Readings.{pieces, header_in, record_in, row_in, inner_in, entry_in, leaf_in}
 use Rattle.nodes.proofs.Spelling.{made_header, made_record, made_row, made_inner, made_entry, made_leaf}
 

@@ -1,5 +1,5 @@
 -- Byte 0 of each image, and the sort that it names. Assumes nothing.
-use Rattle.std.proofs.Common.{◌≡◌, ℕ, Bool, true, false, cond, eqb, List, get_or, Some, None, Option, sym, refl, ap, ◌∙◌}
+use Rattle.std.proofs.Common.{◌≡◌, ℕ, cond, eqb, List, get_or, Some, None, sym, refl, ap, ◌∙◌}
 use Rattle.nodes.specs.declared.sort.PageSort.{PageSort}
 use Rattle.nodes.specs.declared.sort.PageSort.TheVariants.{Header, Inner, Leaf, Record, Free}
 use Rattle.nodes.specs.Sorts.{sort_number}

@@ -1,9 +1,9 @@
 -- Each image is a page, and what stands in it is the value that it is the image of. Assumes nothing.
-use Rattle.std.proofs.Common.{◌≡◌, ℕ, zero, suc, ◌+◌, ◌-◌, ◌*◌, ◌^◌, ◌<◌, ◌≤◌, min, max, Bool, true, false, cond, List, [], ◌∷◌, ◌++◌, map, length, get_or, take, drop, replicate, Some, None, Decides, Option, sym, refl, ap, ◌∙◌, subst, arith, lit<, lit≤, MatchOption}
+use Rattle.std.proofs.Common.{◌≡◌, ℕ, ◌+◌, ◌-◌, ◌*◌, ◌^◌, ◌<◌, ◌≤◌, min, max, Bool, false, cond, List, [], ◌∷◌, ◌++◌, map, length, drop, replicate, Some, None, Decides, Option, sym, refl, ap, ◌∙◌, subst, arith, lit<, lit≤, MatchOption}
 use Rattle.std.proofs.lemmas.List.{append_assoc, append-nil, take_at, take_all, drop_at, length-append}
 use Rattle.std.specs.List.{flat_map, AllByRecursion}
 use Rattle.numbers.specs.BigEndian.{number_of, bytes_of, Bytes, part, number_at}
-use Rattle.numbers.proofs.Spelling.{length_bytes_of, bytes_bytes_of, number_bytes_of}
+use Rattle.numbers.proofs.Spelling.{bytes_bytes_of, number_bytes_of}
 use Rattle.nodes.specs.declared.sort.PageSort.{PageSort}
 use Rattle.nodes.specs.declared.sort.PageSort.TheVariants.{Header, Inner, Leaf, Record, Free}
 use Rattle.nodes.specs.Sorts.{sort_number}

@@ -1,11 +1,11 @@
 -- Pages as the code fills them, from the front on. Assumes nothing.
-use Rattle.std.proofs.Common.{◌≡◌, ℕ, zero, suc, ◌+◌, ◌-◌, ◌*◌, ◌^◌, ◌<◌, ◌≤◌, List, [], ◌∷◌, ◌++◌, map, length, get_or, take, drop, replicate, sym, refl, ap, ◌∙◌, subst, arith, lit<, lit≤}
+use Rattle.std.proofs.Common.{◌≡◌, ℕ, ◌+◌, ◌^◌, ◌<◌, ◌≤◌, List, [], ◌∷◌, ◌++◌, map, length, get_or, take, replicate, sym, refl, ap, ◌∙◌, subst, arith, lit≤}
 use Rattle.numbers.specs.BigEndian.{bytes_of, Bytes, written}
 use Rattle.nodes.specs.declared.sort.PageSort.{PageSort}
-use Rattle.nodes.specs.declared.sort.PageSort.TheVariants.{Header, Inner, Leaf, Record}
+use Rattle.nodes.specs.declared.sort.PageSort.TheVariants.{Inner, Leaf, Record}
 use Rattle.nodes.specs.Sorts.{sort_number}
 use Rattle.std.proofs.lemmas.List.{append_assoc, length-append, length-take-le, get_or-map}
-use Rattle.std.specs.List.{flat_map, AllByRecursion}
+use Rattle.std.specs.List.{flat_map}
 use Rattle.nodes.specs.Layout.{padded, front_bytes, HeaderPage, header_image, InnerRow, row_bytes, RowFits, inner_image, InnerFits, entry_bytes, LeafEntry, EntryFits, leaf_image, LeafFits, record_image, RecordFits}
 use Rattle.nodes.specs.Codec.{Spells}
 use Rattle.nodes.proofs.Padding.{padded_padded, padded_append, padded_full, length_padded, step_on, blank, Filled, filled_start}

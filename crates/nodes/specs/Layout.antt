@@ -1,5 +1,5 @@
 -- What a page of each sort is: a function from a value to 512 bytes, and which values fit.
-use Rattle.std.specs.Prelude.{◌≡◌, ℕ, ◌+◌, ◌-◌, ◌^◌, ◌<◌, ◌≤◌, List, [], ◌∷◌, ◌++◌, length, replicate}
+use Rattle.std.specs.Prelude.{◌≡◌, ℕ, ◌+◌, ◌-◌, ◌^◌, ◌<◌, ◌≤◌, List, ◌∷◌, ◌++◌, length, replicate}
 use Rattle.std.specs.List.{flat_map, AllByRecursion}
 use Rattle.numbers.specs.BigEndian.{bytes_of, Bytes}
 use Rattle.nodes.specs.declared.sort.PageSort.{PageSort}

@@ -1,5 +1,5 @@
 -- What stands in the places of any 512 bytes, a count outside its bounds being moved to the nearest. A page is an image exactly if it is the image of what stands in it.
-use Rattle.std.specs.Prelude.{ℕ, zero, suc, ◌-◌, min, max, List, [], ◌∷◌, map, length, take, drop, slice_index}
+use Rattle.std.specs.Prelude.{ℕ, zero, suc, ◌-◌, min, max, List, [], ◌∷◌, map, take, drop, slice_index}
 use Rattle.numbers.specs.BigEndian.{number_of, part, number_at}
 use Rattle.nodes.specs.Layout.{HeaderPage, InnerRow, InnerPage, LeafEntry, LeafPage, RecordPage, FreePage}
 

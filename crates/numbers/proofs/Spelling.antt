@@ -1,11 +1,9 @@
 -- A number and its bytes, there and back, over the width. Assumes nothing.
-use Rattle.std.proofs.Common.{◌≡◌, ℕ, zero, suc, ◌+◌, ◌-◌, ◌*◌, ◌/◌, ◌%◌, ◌^◌, ◌<◌, ◌≤◌, Bool, true, false, cond, leb, List, [], ◌∷◌, ◌++◌, length, get_or, take, drop, sym, refl, ap, ◌∙◌, subst, ⊎_elim, pow-suc, arith, length-append, le-leb}
+use Rattle.std.proofs.Common.{◌≡◌, ℕ, zero, suc, ◌+◌, ◌-◌, ◌/◌, ◌%◌, ◌^◌, ◌<◌, ◌≤◌, leb, List, [], ◌∷◌, ◌++◌, length, get_or, take, drop, sym, refl, ap, ◌∙◌, subst, ⊎_elim, pow-suc, arith, length-append, le-leb}
 use borrow.Author.Tests.{lt-leb}
-use Rattle.std.proofs.lemmas.List.{nil_from_length, take_all, take_more, length-take-le, length_push, take_at, drop_at, drop-drop, length-drop, length-take, take-append-le, drop-append-le, take-take, drop-take}
+use Rattle.std.proofs.lemmas.List.{nil_from_length, take_all, take_more, length-take-le, length_push, take_at, drop_at, drop-drop, length-drop, length-take, take-take, drop-take}
 use Rattle.std.proofs.lemmas.Int.Digits.{number_push}
 use Rattle.std.proofs.lemmas.Bool.{cases_lt}
-use Rattle.std.specs.Int.Digits.{number_from_digits_after, number_from_digits}
-use Rattle.std.specs.List.{AllByRecursion}
 use Rattle.numbers.specs.BigEndian.{number_of, bytes_of, Bytes, part, number_at}
 
 pub length_bytes_of : (width n : ℕ) → length (bytes_of width n) ≡ width

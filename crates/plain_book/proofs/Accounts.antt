@@ -1,11 +1,11 @@
 -- What an account becomes, over lists: `f` reads a record's postings.
-use Rattle.std.proofs.Common.{◌≡◌, ℕ, zero, suc, ◌+◌, ◌<◌, ◌≤◌, Bool, true, false, cond, not, ◌&&◌, eqb, ltb, leb, List, [], ◌∷◌, ◌++◌, map, length, get_or, take, drop, sym, refl, ap, ◌∙◌, arith}
+use Rattle.std.proofs.Common.{◌≡◌, ℕ, suc, ◌+◌, ◌<◌, ◌≤◌, true, false, ◌&&◌, eqb, List, [], ◌∷◌, ◌++◌, map, length, get_or, take, drop, sym, refl, ap, ◌∙◌, arith}
 use Rattle.std.specs.List.{prefix_len, flat_map, remove, insert}
 use Rattle.std.proofs.lemmas.Bool.{ne_eqb, eq-eqb, le-leb, lt-leb, le-ltb}
 use Rattle.std.proofs.lemmas.List.{take_at, drop_at, length-take-le, length-map, take-map, drop-map, get_or-map, map-append, append_assoc, append-nil, take_more}
 use Rattle.keys.specs.Kinds.{Field}
 use Rattle.book.specs.Books.{Held, has, without, no_postings}
-use Rattle.book.specs.Entries.{Entry, no_records, is_empty, moved, posted_in, kept, without_in, cancelled_in}
+use Rattle.book.specs.Entries.{Entry, no_records, moved, posted_in, kept, without_in, cancelled_in}
 use Rattle.plain_book.proofs.Positions.{lacking, put_back, none_has, first_that_has}
 
 abbrev pub held_as : Field → List ℕ → List (List ℕ) → Held Entry

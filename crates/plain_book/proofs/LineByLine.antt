@@ -1,28 +1,27 @@
 -- The lines of a batch, one by one, and the merge that they make.
-use Rattle.std.proofs.Common.{◌≡◌, ℕ, zero, suc, ◌+◌, ◌-◌, ◌<◌, ◌≤◌, Bool, true, false, cond, List, [], ◌∷◌, ◌++◌, map, length, get_or, take, drop, Some, None, Option, sym, refl, ap, ◌∙◌, subst, arith}
-use Rattle.std.specs.List.{slice_get, flat_map, AllByRecursion}
+use Rattle.std.proofs.Common.{◌≡◌, ℕ, zero, suc, ◌+◌, ◌-◌, ◌<◌, ◌≤◌, true, cond, List, [], ◌∷◌, ◌++◌, length, get_or, take, drop, Some, None, sym, refl, ap, ◌∙◌, subst, arith}
+use Rattle.std.specs.List.{slice_get, AllByRecursion}
 use Rattle.std.proofs.lemmas.List.{append-nil, length-append, length-map, take_more, take_all, drop_more, drop_all, get_or_append_left, get_or-append_right, get_or-map}
 use Rattle.std.proofs.ByRecursion.{All-weaker}
 use Rattle.refusals.specs.Refusals.{Answer, Accepted, Refused, and_then, is_accepted}
 use Rattle.numbers.specs.BigEndian.{Bytes}
 use Rattle.keys.specs.Kinds.{Kind, Field}
-use Rattle.batches.specs.declared.line.Sign.{Sign}
-use Rattle.batches.specs.declared.line.Sign.TheVariants.{Posting, Cancelling}
+use Rattle.batches.specs.declared.line.Sign.TheVariants.{Posting}
 use Rattle.batches.specs.declared.line.Line.{Line}
 use Rattle.batches.specs.Layout.{Row, Rising, RowFits, lines_of}
 use Rattle.batches.specs.Rows.{lines_before, no_row}
-use Rattle.batches.specs.Reading.{rows_in, kind_code}
+use Rattle.batches.specs.Reading.{rows_in}
 use Rattle.batches.specs.Opening.{open_answer, opens}
 use Rattle.batches.specs.KeyCheck.{kind_and_keys_answer}
 use Rattle.batches.proofs.Refiling.{its_rows_fit}
-use Rattle.book.specs.Books.{Held, has, Sorted}
+use Rattle.book.specs.Books.{has, Sorted}
 use Rattle.book.specs.Merging.{Booking, bookings_of, lines_under, standing, applied, line_answer, line_taken, lines_answer, lines_taken, is_posting, posting_lines, pages_answer, merge_answer, check_answer, RowsRise}
 use Rattle.book.specs.Entries.{Entry, Entries, postings_in, paged}
 use Rattle.book.proofs.Bookings.{accepted_keys, lawful_lines}
 use Rattle.book.proofs.Taking.{line_sorted}
 use Rattle.book.proofs.Paged.{paged_follows}
 use Rattle.book.proofs.Merges.{checked_before}
-use Rattle.plain_book.specs.Places.{found_in, spliced}
+use Rattle.plain_book.specs.Places.{spliced}
 use Rattle.plain_book.specs.Lines.{no_booking, found_answer, found_answers, all_spliced}
 use Rattle.plain_book.proofs.Places.{splice_is_change, found_is_value}
 

@@ -1,20 +1,19 @@
 -- The rows of a listing as the executable book finds and cuts them.
-use Rattle.std.proofs.Common.{◌≡◌, ℕ, ◌+◌, ◌-◌, ◌*◌, ◌/◌, ◌<◌, ◌≤◌, min, Bool, true, false, cond, not, ◌&&◌, ◌⊎◌, List, [], ◌∷◌, ◌++◌, map, length, get_or, take, drop, set, Some, None, filter, Option, sym, refl, ap, ◌∙◌, inl, inr, arith}
+use Rattle.std.proofs.Common.{◌≡◌, ℕ, ◌+◌, ◌-◌, ◌*◌, ◌/◌, ◌<◌, ◌≤◌, min, Bool, true, false, cond, ◌⊎◌, List, [], ◌∷◌, ◌++◌, length, get_or, take, drop, set, Some, None, filter, Option, sym, refl, ap, ◌∙◌, inl, inr, arith}
 use Rattle.std.specs.List.{flat_map, AllByRecursion}
-use Rattle.std.proofs.lemmas.List.{append_assoc, append-nil, length-append, length-take, length-drop, take_more, take_all, take_at, drop_at, drop_all, take-append-drop, get_or-drop}
+use Rattle.std.proofs.lemmas.List.{append_assoc, append-nil, length-take, length-drop, take_more, take_all, take_at, drop_at, drop_all, take-append-drop, get_or-drop}
 use Rattle.std.proofs.lemmas.List.Elements.{filter-append}
 use Rattle.std.proofs.ByRecursion.{All-take, All-drop}
 use Rattle.std.proofs.lemmas.Bool.{cases_lt}
-use Rattle.refusals.specs.Refusals.{Answer, Accepted, Refused, wants, and_then, on_accepted}
+use Rattle.refusals.specs.Refusals.{Accepted}
 use Rattle.numbers.specs.BigEndian.{bytes_of}
-use Rattle.keys.specs.Kinds.{Kind, Field, below}
+use Rattle.keys.specs.Kinds.{Kind, Field}
 use Rattle.book.specs.Books.{Held, Book, SortedFrom, Sorted}
-use Rattle.book.specs.Looking.{Listed, Listing, rows_under, listed_bytes, within, listed, rows_shown, bounds_answer, buffer_with, list_answer, buffer_after_list}
-use Rattle.book.specs.Entries.{Entry, Entries, book_of, postings_in}
+use Rattle.book.specs.Looking.{Listed, Listing, rows_under, listed_bytes, within, listed, rows_shown, buffer_with, list_answer, buffer_after_list}
+use Rattle.book.specs.Entries.{Entries, book_of, postings_in}
 use Rattle.book.proofs.Looking.{LawfulRow, length_rows, lawful_listed}
 use Rattle.plain_book.specs.declared.account.Account.{Account}
 use Rattle.plain_book.specs.Accounts.{held_in, entries_of}
-use Rattle.plain_book.specs.Places.{lower}
 use Rattle.plain_book.specs.Listings.{reached, rows_found, bytes_found}
 use Rattle.plain_book.proofs.Lookups.{fill_more}
 

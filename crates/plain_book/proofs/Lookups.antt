@@ -1,12 +1,12 @@
 -- What a lookup writes into its list.
-use Rattle.std.proofs.Common.{◌≡◌, ℕ, ◌+◌, ◌<◌, ◌≤◌, min, Bool, true, false, cond, ◌⊎◌, List, [], ◌∷◌, ◌++◌, length, get_or, take, drop, set, Some, None, Option, sym, refl, ap, ◌∙◌, inl, inr, arith}
+use Rattle.std.proofs.Common.{◌≡◌, ℕ, ◌+◌, ◌<◌, ◌≤◌, min, Bool, true, false, cond, ◌⊎◌, List, [], ◌∷◌, ◌++◌, length, get_or, take, drop, set, Some, None, sym, refl, ap, ◌∙◌, inl, inr, arith}
 use Rattle.std.proofs.lemmas.List.{take_more, take_more_set, drop-set-lt, drop-drop, take-append-drop, take_all}
 use Rattle.std.proofs.lemmas.Bool.{cases_lt}
-use Rattle.refusals.specs.Refusals.{Answer, Accepted, Refused, wants, and_then}
+use Rattle.refusals.specs.Refusals.{Accepted}
 use Rattle.keys.specs.Kinds.{Kind, Field}
 use Rattle.book.specs.Books.{Sorted, postings_of}
 use Rattle.book.specs.Looking.{Looked, shown, lookup_answer, list_after_lookup}
-use Rattle.book.specs.Entries.{Entry, Entries, postings_in, book_of}
+use Rattle.book.specs.Entries.{Entries, postings_in, book_of}
 use Rattle.book.proofs.Paged.{value_spelled}
 use Rattle.plain_book.specs.Places.{found_in}
 use Rattle.plain_book.proofs.Places.{found_is_value}

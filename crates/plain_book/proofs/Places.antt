@@ -1,14 +1,13 @@
 -- Places of keys among accounts, and what a change at a place makes of the entries.
-use Rattle.std.proofs.Common.{◌≡◌, ℕ, zero, suc, ◌+◌, ◌-◌, ◌<◌, ◌≤◌, min, Bool, true, false, cond, not, ◌&&◌, ltb, List, [], ◌∷◌, ◌++◌, map, length, get_or, take, drop, IfOk, Some, None, Ok, Err, vec_items, Option, Result, Ordering, Less, Equal, Greater, sym, refl, ap, ◌∙◌, subst, arith}
+use Rattle.std.proofs.Common.{◌≡◌, ℕ, suc, ◌+◌, ◌<◌, ◌≤◌, Bool, true, false, cond, not, ◌&&◌, List, [], ◌∷◌, ◌++◌, length, get_or, take, drop, IfOk, Some, Ok, Err, vec_items, Option, Result, Ordering, Less, Equal, Greater, sym, refl, ap, ◌∙◌, arith}
 use Rattle.std.specs.Ordering.{is_eq}
-use Rattle.std.specs.List.{prefix_len, remove, insert}
+use Rattle.std.specs.List.{remove, insert}
 use Rattle.std.proofs.lemmas.List.Sums.{prefix_len-le-length}
-use Rattle.std.proofs.lemmas.List.{take_at, drop_at, length-take-le, length-take, length-drop, length-append, length-map, take-map, drop-map, get_or-map, map-append, drop_more, drop_all, take-append-drop}
+use Rattle.std.proofs.lemmas.List.{take_at, drop_at, length-take-le, length-map, take-map, drop-map, get_or-map, map-append, drop_more, drop_all, take-append-drop}
 use Rattle.std.proofs.lemmas.List.Edits.{length-remove}
-use Rattle.std.proofs.lemmas.Bool.{true≢false, le-ltb}
 use Rattle.keys.specs.Kinds.{Kind, Field, below}
 use Rattle.keys.proofs.Orders.{below_from_less, below_from_greater, below_asymmetric, not_below_from_same, same_from_order}
-use Rattle.book.specs.Books.{Held, by_order, value_at, put, changed, SortedFrom, Sorted}
+use Rattle.book.specs.Books.{Held, by_order, value_at, put, changed, SortedFrom}
 use Rattle.book.specs.Entries.{Entry, Entries, is_empty, paged}
 use Rattle.book.proofs.Changes.{sorted_lower, absent}
 use Rattle.book.proofs.Paged.{paged_clear}

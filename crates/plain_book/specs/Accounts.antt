@@ -1,5 +1,5 @@
 -- What the accounts of an executable book hold.
-use Rattle.std.specs.Prelude.{ℕ, List, map, vec_items}
+use Rattle.std.specs.Prelude.{List, map, vec_items}
 use Rattle.plain_book.specs.declared.account.Account.{Account}
 use Rattle.book.specs.Books.{Held}
 use Rattle.book.specs.Entries.{Entry, Entries}

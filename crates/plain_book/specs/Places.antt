@@ -1,5 +1,5 @@
 -- Where a key stands among the keys of a book, and what is done there.
-use Rattle.std.specs.Prelude.{ℕ, Bool, true, false, cond, not, ◌&&◌, List, [], ◌∷◌, ◌++◌, take, drop}
+use Rattle.std.specs.Prelude.{ℕ, Bool, false, cond, not, ◌&&◌, [], ◌∷◌, ◌++◌, take, drop}
 use Rattle.std.specs.List.{prefix_len}
 use Rattle.keys.specs.Kinds.{Kind, Field, below}
 use Rattle.book.specs.Books.{Held, put}

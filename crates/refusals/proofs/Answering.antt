@@ -1,6 +1,6 @@
 -- Rules one after another: what an accepted or a refused answer tells. Assumes nothing.
-use Rattle.std.proofs.Common.{◌≡◌, ℕ, Bool, true, false, cond, sym, refl, ap, ◌∙◌, arith}
-use Rattle.refusals.specs.Refusals.{Answer, Accepted, Refused, wants, and_then, is_accepted, on_accepted}
+use Rattle.std.proofs.Common.{◌≡◌, ℕ, Bool, true, false, sym, refl, ap, arith}
+use Rattle.refusals.specs.Refusals.{Answer, Accepted, Refused, wants, and_then, is_accepted}
 
 pub never_both : {A : Type 0} (value : A) (number place : ℕ) → ◌≡◌ {A = Answer A} (Accepted value) (Refused number place) → ⊥
 never_both value number place e = let z : ◌≡◌ {A = ℕ} 0 1 = cc in omega arith

@@ -1,5 +1,5 @@
 -- A refusal comes back from its number and its place. Assumes nothing.
-use Rattle.std.proofs.Common.{◌≡◌, ℕ, Bool, true, false, cond, eqb, sym, refl, ap, ◌∙◌}
+use Rattle.std.proofs.Common.{◌≡◌, ℕ, cond, eqb, sym, refl, ap, ◌∙◌}
 use Rattle.refusals.specs.declared.Refusal.{Refusal}
 use Rattle.refusals.specs.declared.Refusal.TheVariants.{NotOpen, Form, Kind, Key, Line, Stands, Absent, NoPages, Lost, Damaged, Size, Page, Buffer}
 use Rattle.refusals.specs.Refusals.{number_of, place_of, NumberAndPlaceTellRefusalsApart}

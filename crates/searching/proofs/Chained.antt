@@ -1,14 +1,14 @@
 -- The chains of a valid tree. Assumes nothing.
-use Rattle.std.proofs.Common.{◌≡◌, ℕ, ◌+◌, ◌<◌, ◌≤◌, List, [], ◌∷◌, ◌++◌, map, length, sym, refl, ap, ◌∙◌, subst, arith}
-use Rattle.std.specs.List.{flat_map, AllByRecursion}
+use Rattle.std.proofs.Common.{ℕ, ◌<◌, ◌≤◌, List, [], ◌∷◌, map, length, refl, arith}
+use Rattle.std.specs.List.{AllByRecursion}
 use Rattle.std.proofs.lemmas.List.{length-map}
 use Rattle.keys.specs.Kinds.{Kind}
 use Rattle.book.specs.Entries.{Entries}
-use Rattle.tree.specs.Trees.{RecordAt, EntryAt, Leaf, leaves_of, entries_of, node_pages, record_pages, chain_pages}
+use Rattle.tree.specs.Trees.{RecordAt, EntryAt, entries_of, record_pages, chain_pages}
 use Rattle.tree.specs.Valid.{Pages, head_of, SpellChain, Valid}
-use Rattle.tree.proofs.Everywhere.{all_parts, all_front, all_back, each_shorter}
+use Rattle.tree.proofs.Everywhere.{all_parts, each_shorter}
 use Rattle.tree.proofs.Fitting.{ChainFits, Linkable, record_pages_linkable, fewer_than_pages}
-use Rattle.searching.specs.Chains.{record_in, ChainFrom}
+use Rattle.searching.specs.Chains.{ChainFrom}
 
 pub chain_from : (pages : Pages) (bound : ℕ) (records : List RecordAt) → SpellChain pages records → ChainFits records → AllByRecursion (Linkable bound) (map (λ (r : RecordAt). r.page) records) → ChainFrom pages (head_of records) records
 chain_from pages bound [] spelled fits linkable = refl

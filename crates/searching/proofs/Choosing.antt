@@ -1,11 +1,9 @@
 -- The child for a key, row by row. Assumes nothing.
-use Rattle.std.proofs.Common.{◌≡◌, ℕ, zero, suc, ◌+◌, ◌<◌, ◌≤◌, Bool, true, false, cond, ◌&&◌, List, [], ◌∷◌, ◌++◌, map, length, get_or, take, drop, Some, None, Option, sym, refl, ap, ◌∙◌, subst, add-one, arith, drop-cons}
-use Rattle.std.specs.List.{flat_map, AllByRecursion}
+use Rattle.std.proofs.Common.{◌≡◌, ℕ, zero, suc, ◌+◌, ◌<◌, ◌≤◌, Bool, true, false, cond, ◌&&◌, List, [], ◌∷◌, map, length, get_or, take, drop, Some, None, Option, sym, refl, ap, ◌∙◌, subst, add-one, arith, drop-cons}
+use Rattle.std.specs.List.{AllByRecursion}
 use Rattle.std.proofs.lemmas.List.{length-map, length-take-le, get_or-take, get_or-map, drop_all}
 use Rattle.keys.specs.Kinds.{Kind, Field, below}
-use Rattle.nodes.specs.declared.row.ChildRow.{ChildRow}
 use Rattle.nodes.specs.Layout.{InnerRow, InnerPage}
-use Rattle.nodes.specs.Meanings.{row_of}
 use Rattle.searching.specs.Descents.{child_for}
 
 -- what an element of a list's front is, and what comes after it

@@ -1,23 +1,17 @@
 -- The way down a valid tree, level by level. Assumes nothing.
-use Rattle.std.proofs.Common.{◌≡◌, ℕ, zero, suc, ◌+◌, ◌<◌, ◌≤◌, Bool, true, false, List, [], ◌∷◌, ◌++◌, map, length, Some, None, Option, sym, refl, ap, ◌∙◌, subst, append_assoc, append-nil, arith}
+use Rattle.std.proofs.Common.{◌≡◌, ℕ, zero, suc, ◌≤◌, true, List, [], ◌∷◌, ◌++◌, map, length, None, sym, ap, ◌∙◌, subst, append_assoc, append-nil}
 use Rattle.std.specs.List.{flat_map, AllByRecursion}
-use Rattle.std.proofs.ByRecursion.{All-append}
-use Rattle.page_store.specs.Meanings.{Meaning, Live, count_of, page_at}
+use Rattle.page_store.specs.Meanings.{Meaning, Live, page_at}
 use Rattle.keys.specs.Kinds.{Kind, Field, below}
 use Rattle.nodes.specs.declared.inner.InnerNode.{InnerNode}
-use Rattle.nodes.specs.declared.leaf.Leaf.{Leaf as LeafRead}
-use Rattle.nodes.specs.Layout.{InnerRow, InnerPage, inner_image, InnerFits, LeafPage, leaf_image, LeafFits}
-use Rattle.nodes.specs.Meanings.{inner_of, leaf_of}
-use Rattle.nodes.specs.Codec.{Spells}
+use Rattle.nodes.specs.Layout.{InnerRow, InnerPage, inner_image, InnerFits}
+use Rattle.nodes.specs.Meanings.{inner_of}
 use Rattle.book.specs.Entries.{Entries}
-use Rattle.tree.specs.Trees.{EntryAt, Leaf, Branch, Inner, Tree, root_of, leaves_of, keys_of}
-use Rattle.tree.specs.Valid.{Pages, Spell, Ordered, Rise, Valid}
-use Rattle.tree.proofs.Everywhere.{all_both}
-use Rattle.tree.proofs.Fitting.{NodesFit, inner_page, leaf_page, nodes_fit_pages, rise_lawful}
-use Rattle.searching.specs.declared.arrival.Descent.{Descent}
-use Rattle.searching.specs.Descents.{child_for, keys_in, Arrives}
-use Rattle.searching.proofs.ReadValues.{read_value}
-use Rattle.searching.proofs.Picking.{all_keys, rows_for, LawfulKeys, Picked, pick}
+use Rattle.tree.specs.Trees.{EntryAt, Leaf, Branch, Tree, root_of, leaves_of, keys_of}
+use Rattle.tree.specs.Valid.{Pages, Spell, Ordered, Valid}
+use Rattle.tree.proofs.Fitting.{NodesFit, inner_page, nodes_fit_pages, rise_lawful}
+use Rattle.searching.specs.Descents.{child_for, keys_in}
+use Rattle.searching.proofs.Picking.{all_keys, rows_for, Picked, pick}
 
 -- every key of an ordered tree is lawful
 module _ (kind : Kind) where

@@ -1,14 +1,13 @@
 -- What holds of each leaf of a valid tree. Assumes nothing.
-use Rattle.std.proofs.Common.{◌≡◌, ℕ, zero, suc, ◌≤◌, List, [], ◌∷◌, ◌++◌, map, length, None, sym, refl, ap, ◌∙◌, subst, append-nil}
+use Rattle.std.proofs.Common.{ℕ, zero, suc, ◌≤◌, List, [], ◌∷◌, map, length, None}
 use Rattle.std.specs.List.{flat_map, AllByRecursion}
 use Rattle.std.proofs.ByRecursion.{All-append}
-use Rattle.page_store.specs.Meanings.{Live, Gone}
-use Rattle.keys.specs.Kinds.{Kind, Field}
+use Rattle.keys.specs.Kinds.{Kind}
 use Rattle.nodes.specs.Layout.{LeafFits}
 use Rattle.book.specs.Entries.{Entries}
-use Rattle.tree.specs.Trees.{EntryAt, Leaf, Branch, Inner, Tree, each_child, leaves_of, entries_of}
-use Rattle.tree.specs.Valid.{Pages, SpellLeaf, SpellChain, Spell, Rise, Ordered, EntryFits, Valid}
-use Rattle.tree.proofs.Everywhere.{all_parts, all_both}
+use Rattle.tree.specs.Trees.{EntryAt, Leaf, Branch, Inner, Tree, leaves_of}
+use Rattle.tree.specs.Valid.{Pages, SpellLeaf, Spell, Rise, Ordered, EntryFits, Valid}
+use Rattle.tree.proofs.Everywhere.{all_parts}
 use Rattle.tree.proofs.Fitting.{leaf_page, ChainFits, NodesFit, nodes_fit_pages}
 
 -- a leaf whose page holds it, with its chains, its keys in order and its entries within their sizes

@@ -1,15 +1,15 @@
 -- The loop of the way down: what it keeps, and where it ends. Assumes nothing.
-use Rattle.std.proofs.Common.{◌≡◌, ℕ, zero, suc, ◌+◌, ◌<◌, ◌≤◌, Bool, true, false, ◌⊎◌, List, [], ◌∷◌, ◌++◌, map, length, Some, None, Ok, Err, Option, Result, sym, refl, ap, ◌∙◌, subst, arith, MatchResult}
-use Rattle.std.specs.List.{flat_map, AllByRecursion}
+use Rattle.std.proofs.Common.{◌≡◌, ℕ, zero, suc, ◌+◌, ◌<◌, ◌≤◌, true, List, Some, Ok, Err, Option, Result, sym, ap, ◌∙◌, subst, arith, MatchResult}
+use Rattle.std.specs.List.{AllByRecursion}
 use Rattle.refusals.specs.declared.Refusal.{Refusal}
 use Rattle.page_store.specs.Meanings.{Meaning, Live, count_of, page_at}
-use Rattle.keys.specs.Kinds.{Kind, Field, below}
+use Rattle.keys.specs.Kinds.{Kind, Field}
 use Rattle.nodes.specs.declared.inner.InnerNode.{InnerNode}
 use Rattle.nodes.specs.declared.leaf.Leaf.{Leaf as LeafRead}
-use Rattle.nodes.specs.Layout.{InnerRow, InnerPage, inner_image, InnerFits, LeafPage, leaf_image, LeafFits}
+use Rattle.nodes.specs.Layout.{InnerRow, inner_image, InnerFits, leaf_image, LeafFits}
 use Rattle.nodes.specs.Meanings.{inner_of, leaf_of}
 use Rattle.book.specs.Entries.{Entries}
-use Rattle.tree.specs.Trees.{Leaf, Tree, root_of, leaves_of}
+use Rattle.tree.specs.Trees.{Leaf, root_of, leaves_of}
 use Rattle.tree.specs.Valid.{Valid}
 use Rattle.tree.proofs.Fitting.{inner_page, leaf_page}
 use Rattle.searching.specs.declared.arrival.Descent.{Descent}

@@ -1,18 +1,16 @@
 -- One level of the way down: the child for a key, with all keys left of it below and all right of it above. Assumes nothing.
-use Rattle.std.proofs.Common.{◌≡◌, ℕ, zero, suc, ◌+◌, ◌<◌, ◌≤◌, Bool, true, false, cond, ltb, List, [], ◌∷◌, ◌++◌, map, Some, None, Option, sym, refl, ap, ◌∙◌, subst, append_assoc, arith}
+use Rattle.std.proofs.Common.{◌≡◌, ℕ, Bool, true, false, cond, List, [], ◌∷◌, ◌++◌, map, Some, None, Option, sym, refl, ap, ◌∙◌, subst, append_assoc, arith}
 use Rattle.std.specs.List.{flat_map, AllByRecursion}
 use Rattle.std.proofs.lemmas.List.{map-append}
-use Rattle.std.proofs.ByRecursion.{All-append, All-weaker}
+use Rattle.std.proofs.ByRecursion.{All-append}
 use Rattle.std.proofs.lemmas.Bool.{ltb-true, ltb-false, lt-ltb}
 use Rattle.keys.specs.Kinds.{Kind, Field, below}
 use Rattle.keys.specs.Ranks.{rank}
 use Rattle.keys.proofs.Orders.{below_asymmetric}
 use Rattle.keys.proofs.Ranks.{below_is_of_ranks}
-use Rattle.batches.specs.KeyCheck.{above}
 use Rattle.nodes.specs.Layout.{InnerRow}
 use Rattle.tree.specs.Trees.{EntryAt, Leaf, Branch}
-use Rattle.tree.specs.Valid.{Rise, From, Below, Between, InRange}
-use Rattle.tree.proofs.Everywhere.{all_both}
+use Rattle.tree.specs.Valid.{Rise, From, Between, InRange}
 use Rattle.searching.specs.Descents.{child_for, keys_in}
 
 pub joined_append : {X A : Type 0} (f : X → List A) (xs ys : List X) → flat_map f (xs ++ ys) ≡ flat_map f xs ++ flat_map f ys

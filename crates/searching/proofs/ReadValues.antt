@@ -1,8 +1,7 @@
 -- What a read of a typed page gives where the page holds the image of a value that fits. Assumes nothing.
-use Rattle.std.proofs.Common.{◌≡◌, ℕ, ◌<◌, ◌≤◌, Bool, true, false, cond, ltb, ◌⊎◌, List, [], ◌∷◌, length, replicate, Ok, Err, Result, sym, refl, ap, ◌∙◌, subst, inl, inr, ⊎_elim, arith, MatchResult}
-use Rattle.std.proofs.lemmas.List.{length-replicate}
+use Rattle.std.proofs.Common.{◌≡◌, ℕ, Bool, true, false, cond, ltb, ◌⊎◌, List, Ok, Err, Result, sym, refl, ap, ◌∙◌, subst, inl, inr, arith}
 use Rattle.refusals.specs.declared.Refusal.{Refusal}
-use Rattle.refusals.specs.Refusals.{Answer, Refused, number_of, place_of}
+use Rattle.refusals.specs.Refusals.{Refused, number_of, place_of}
 use Rattle.page_store.specs.Meanings.{Meaning, Page, Live, Gone, count_of, page_at, done, found, read_answer}
 use Rattle.page_store.proofs.Laws.{never, live_is_there, goes_on}
 use Rattle.nodes.specs.Codec.{Spells}

@@ -2,7 +2,7 @@
 use Rattle.std.specs.Prelude.{◌≡◌, ℕ, ◌⊎◌, List, IfErr, Result, MatchResult}
 use Rattle.refusals.specs.declared.Refusal.{Refusal}
 use Rattle.refusals.specs.Refusals.{Answer, Refused, number_of, place_of}
-use Rattle.page_store.specs.Meanings.{Meaning, Live, page_at, done, read_answer}
+use Rattle.page_store.specs.Meanings.{Meaning, Live, page_at, read_answer}
 use Rattle.nodes.specs.Codec.{Spells}
 use Rattle.calls.specs.States.{ShowsDamage}
 

@@ -1,5 +1,5 @@
 -- The tree, by recursion on its height: what stands on pages, apart from the bytes that spell it.
-use Rattle.std.specs.Prelude.{◌≡◌, ℕ, zero, suc, ◌+◌, List, [], ◌∷◌, ◌++◌, map, length}
+use Rattle.std.specs.Prelude.{ℕ, zero, suc, List, [], ◌∷◌, ◌++◌, map}
 use Rattle.std.specs.List.{flat_map}
 use Rattle.keys.specs.Kinds.{Field}
 use Rattle.book.specs.Books.{Held}

@@ -1,13 +1,13 @@
 -- The valid tree: a relation between the pages of a store, a key kind and the entries that the pages hold.
-use Rattle.std.specs.Prelude.{◌≡◌, ℕ, zero, suc, ◌+◌, ◌<◌, ◌≤◌, Bool, true, false, cond, List, [], ◌∷◌, ◌++◌, map, length, Some, None, sum_by, Option, nat_lt, slice_index_or}
+use Rattle.std.specs.Prelude.{◌≡◌, ℕ, zero, suc, ◌+◌, ◌≤◌, Bool, true, false, cond, List, [], ◌∷◌, ◌++◌, map, length, Some, None, sum_by, Option, nat_lt, slice_index_or}
 use Rattle.std.specs.List.{flat_map, AllByRecursion}
 use Rattle.page_store.specs.Meanings.{Page, Live, Gone}
-use Rattle.nodes.specs.Layout.{HeaderPage, InnerPage, InnerRow, LeafPage, LeafEntry, RecordPage, FreePage, header_image, inner_image, leaf_image, record_image, free_image}
+use Rattle.nodes.specs.Layout.{LeafEntry, header_image, inner_image, leaf_image, record_image, free_image}
 use Rattle.keys.specs.Kinds.{Kind, Field, below}
 use Rattle.batches.specs.KeyCheck.{above}
 use Rattle.book.specs.Books.{count, PostingNumber}
 use Rattle.book.specs.Entries.{Entries}
-use Rattle.tree.specs.Trees.{RecordAt, EntryAt, Leaf, Branch, Inner, Tree, each_child, root_of, leaves_of, entries_of, keys_of, node_pages, record_pages, held_by}
+use Rattle.tree.specs.Trees.{RecordAt, EntryAt, Leaf, Branch, Tree, root_of, leaves_of, entries_of, keys_of, node_pages, record_pages, held_by}
 
 abbrev pub Pages : Type 0
 Pages = List Page

@@ -1,5 +1,4 @@
-use Rattle.std.proofs.Common.{◌≡◌, ℕ, List, Err, sym, refl, ap, ◌∙◌, Bor}
-use Rattle.refusals.specs.Refusals.{answer_of}
+use Rattle.std.proofs.Common.{ℕ, List, Err, ap, ◌∙◌, Bor}
 use Rattle.std.proofs.lemmas.Result.{err_from_is_err_and}
 use Rattle.searching.proofs.ReadValues.{returned_shows_damage, damage_at}
 use Rattle.lookups.proofs.Whole.{checked, refused_on_the_way, looked_up_whole}

@@ -1,4 +1,4 @@
-use Rattle.std.proofs.Common.{sym, ◌∙◌, add-zero, arith}
+use Rattle.std.proofs.Common.{sym, add-zero, arith}
 use Rattle.numbers.proofs.Reading.{number_past, number_cells}
 use Rattle.numbers.proofs.u32_at.Goals as goal
 

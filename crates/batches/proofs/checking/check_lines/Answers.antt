@@ -1,4 +1,4 @@
-use Rattle.std.proofs.Common.{◌≡◌, ℕ, ◌+◌, sym, ap, ◌∙◌, arith}
+use Rattle.std.proofs.Common.{sym, ◌∙◌, arith}
 use Rattle.std.proofs.lemmas.Result.{err_from_is_err_and}
 use Rattle.batches.proofs.Steps.{few_rows, few_lines, length_is, rest_follows, row_ends, row_stops, row_passes, lines_end}
 use Rattle.refusals.specs.Refusals.{number_of, place_of}

@@ -1,4 +1,4 @@
-use Rattle.std.proofs.Common.{◌≡◌, ◌*◌, ◌≤◌, true, drop}
+use Rattle.std.proofs.Common.{◌≡◌, true, drop}
 use Rattle.batches.specs.Reading.{cells_in, contents_in, line_count}
 use Rattle.batches.specs.Opening.{lines_answer, follow}
 use Rattle.batches.proofs.checking.check_lines.Given as goal

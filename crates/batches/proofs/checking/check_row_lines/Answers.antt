@@ -1,7 +1,5 @@
-use Rattle.std.proofs.Common.{◌≡◌, ℕ, ◌+◌, ◌*◌, length, sym, ap, ◌∙◌, arith}
+use Rattle.std.proofs.Common.{sym, ◌∙◌, arith}
 use Rattle.std.proofs.lemmas.Result.{err_from_is_err_and}
-use Rattle.numbers.specs.BigEndian.{part}
-use Rattle.numbers.proofs.Spelling.{length_part}
 use Rattle.refusals.specs.Refusals.{number_of, place_of}
 use Rattle.batches.proofs.Cells.{row_bad_sign, row_bad_number, row_good}
 use Rattle.batches.proofs.checking.check_row_lines.Goals as goal

@@ -1,4 +1,4 @@
-use Rattle.std.proofs.Common.{◌≡◌, ◌*◌, ◌≤◌}
+use Rattle.std.proofs.Common.{◌≡◌}
 use Rattle.std.specs.List.{between}
 use Rattle.batches.specs.Reading.{cells_in}
 use Rattle.batches.specs.Opening.{row_answer}

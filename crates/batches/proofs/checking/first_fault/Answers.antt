@@ -1,4 +1,4 @@
-use Rattle.std.proofs.Common.{◌≡◌, sym, ◌∙◌}
+use Rattle.std.proofs.Common.{sym, ◌∙◌}
 use Rattle.batches.proofs.Steps.{fails_at_1, fails_at_2, fails_at_3, fails_at_4, comes_to_the_lines}
 use Rattle.batches.proofs.checking.first_fault.Goals as goal
 

@@ -1,4 +1,4 @@
-use Rattle.std.proofs.Common.{◌≡◌, sym, ◌∙◌, arith}
+use Rattle.std.proofs.Common.{sym, ◌∙◌, arith}
 use Rattle.batches.specs.Reading.{line_count}
 use Rattle.batches.proofs.Contents.{follow_empty, follow_gap, follow_on, follow_end}
 use Rattle.batches.proofs.checking.rows_follow.Goals as goal

@@ -1,4 +1,4 @@
-use Rattle.std.proofs.Common.{◌≡◌, sym, ap, ◌∙◌, arith}
+use Rattle.std.proofs.Common.{◌∙◌, arith}
 use Rattle.batches.proofs.Reversals.{turned_step}
 use Rattle.batches.proofs.reversing.exchange_signs.Goals as goal
 

@@ -1,4 +1,4 @@
-use Rattle.std.proofs.Common.{◌≡◌, ◌+◌, ◌-◌, ◌*◌, length}
+use Rattle.std.proofs.Common.{◌≡◌, ◌+◌, ◌-◌, ◌*◌}
 use Rattle.batches.specs.Reversal.{turned_from}
 use Rattle.batches.proofs.reversing.exchange_signs.Given as goal
 

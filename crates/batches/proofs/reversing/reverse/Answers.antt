@@ -1,4 +1,4 @@
-use Rattle.std.proofs.Common.{◌≡◌, sym, refl, ap, ◌∙◌, arith}
+use Rattle.std.proofs.Common.{sym, refl, ap, ◌∙◌, arith}
 use Rattle.refusals.specs.Refusals.{on_accepted}
 use Rattle.batches.specs.Reversal.{reversal}
 use Rattle.batches.proofs.Opened.{rows_length}

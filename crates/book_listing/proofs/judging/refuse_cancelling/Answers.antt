@@ -1,4 +1,4 @@
-use Rattle.std.proofs.Common.{◌≡◌, ℕ, ◌<◌, length, sym, ◌∙◌, arith}
+use Rattle.std.proofs.Common.{◌<◌, length, sym, ◌∙◌, arith}
 use Rattle.batches.specs.Layout.{lines_of}
 use Rattle.batches.specs.Reading.{rows_in}
 use Rattle.book_listing.proofs.Judged.{same_lines, line_is, never_past, line_refused, line_taken, lines_end}

@@ -1,12 +1,12 @@
-use Rattle.std.proofs.Common.{◌≡◌, ℕ, ◌<◌, ◌≤◌, List, length, decimal, sym, refl, ap, ◌∙◌, arith}
+use Rattle.std.proofs.Common.{◌≡◌, length, decimal, sym, ap, ◌∙◌, arith}
 use Rattle.refusals.specs.Refusals.{number_of, place_of}
 use Rattle.numbers.proofs.Spelling.{bytes_from_cells}
 use Rattle.batches.specs.Reading.{rows_in}
-use Rattle.book_listing.specs.Text.{booklist_answer, booklist_text, text_line, filled}
+use Rattle.book_listing.specs.Text.{booklist_answer, booklist_text, text_line}
 use Rattle.book_listing.specs.Writing.{over, batch_text}
 use Rattle.book_listing.proofs.Overs.{over_start}
 use Rattle.book_listing.proofs.Texts.{short_refusal}
-use Rattle.book_listing.proofs.Judged.{Taken, taken, refused_text}
+use Rattle.book_listing.proofs.Judged.{taken, refused_text}
 use Rattle.book_listing.proofs.listing.list.Goals as goal
 
 pub make-batch-requires : goal.make-batch-requires

@@ -1,6 +1,6 @@
-use Rattle.std.proofs.Common.{◌≡◌, ℕ, true, false, sym, refl, ap, ◌∙◌, arith}
-use Rattle.refusals.specs.Refusals.{Answer, Accepted, answer_of}
-use Rattle.calls.specs.States.{State, state_of}
+use Rattle.std.proofs.Common.{◌≡◌, ℕ, refl, arith}
+use Rattle.refusals.specs.Refusals.{answer_of}
+use Rattle.calls.specs.States.{state_of}
 use Rattle.calls.specs.Lookups.{Looks}
 use Rattle.calls.proofs.Carrying.{unmoved}
 use Rattle.calls.proofs.Joining.{lookups_show}

@@ -1,6 +1,6 @@
-use Rattle.std.proofs.Common.{◌≡◌, ℕ, true, false, sym, refl, ap, ◌∙◌, arith}
-use Rattle.refusals.specs.Refusals.{Answer, Accepted, answer_of}
-use Rattle.calls.specs.States.{State, state_of}
+use Rattle.std.proofs.Common.{true, refl}
+use Rattle.refusals.specs.Refusals.{Accepted}
+use Rattle.calls.specs.States.{state_of}
 use Rattle.calls.specs.Making.{Makes}
 use Rattle.calls.proofs.Joining.{made_stands}
 use Rattle.index.proofs.Index.make.Goals as goal

@@ -1,6 +1,5 @@
-use Rattle.std.proofs.Common.{◌≡◌, ℕ, true, false, sym, refl, ap, ◌∙◌, arith}
-use Rattle.refusals.specs.Refusals.{Answer, Accepted, answer_of}
-use Rattle.calls.specs.States.{State, state_of}
+use Rattle.std.proofs.Common.{refl}
+use Rattle.calls.specs.States.{state_of}
 use Rattle.calls.proofs.Carrying.{unmoved}
 use Rattle.index.proofs.Index.settle.Goals as goal
 

@@ -1,4 +1,4 @@
-use Rattle.std.proofs.Common.{◌≡◌, ◌≤◌, length, get_or, arith}
+use Rattle.std.proofs.Common.{◌≡◌, get_or, arith}
 use Rattle.nodes.specs.Meanings.{entry_of, leaf_of}
 use Rattle.searching.proofs.Choosing.{length_taken}
 use Rattle.lookups.proofs.Found.{lacks_more, found_here, lacks_all, told_same, told_other}

@@ -1,7 +1,5 @@
-use Rattle.std.proofs.Common.{◌≡◌, Some, Option, sym, refl, ap, ◌∙◌, subst}
-use Rattle.nodes.specs.Meanings.{entry_of, leaf_of}
-use Rattle.nodes.specs.Layout.{LeafEntry}
-use Rattle.lookups.specs.Showing.{FoundEntry}
+use Rattle.std.proofs.Common.{refl}
+use Rattle.nodes.specs.Meanings.{entry_of}
 use Rattle.lookups.proofs.Located.{shows_absent, shows_found}
 use Rattle.lookups.proofs.finding.look_in_leaf.Goals as goal
 

@@ -1,5 +1,4 @@
-use Rattle.std.proofs.Common.{◌≡◌, ℕ, ◌+◌, ◌<◌, ◌≤◌, List, length, take, sym, refl, ap, ◌∙◌, subst, arith}
-use Rattle.lookups.specs.Pouring.{poured}
+use Rattle.std.proofs.Common.{◌∙◌, arith}
 use Rattle.lookups.proofs.Pourings.{poured_past, poured_here}
 use Rattle.lookups.proofs.pouring.pour.Goals as goal
 use Rattle.lookups.proofs.pouring.pour.Goals.{then-place-k, else-place-k}

@@ -1,4 +1,4 @@
-use Rattle.std.proofs.Common.{◌≡◌, length, take}
+use Rattle.std.proofs.Common.{◌≡◌, take}
 use Rattle.lookups.specs.Pouring.{poured}
 use Rattle.lookups.proofs.pouring.pour.Given as goal
 

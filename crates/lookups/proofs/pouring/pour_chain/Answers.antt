@@ -1,4 +1,4 @@
-use Rattle.std.proofs.Common.{◌≡◌, ℕ, ◌+◌, ◌*◌, ◌<◌, ◌≤◌, length, sym, refl, ap, ◌∙◌, subst, arith, rules}
+use Rattle.std.proofs.Common.{◌≤◌, length, ap, ◌∙◌, subst, arith, rules}
 use Rattle.page_store.specs.Meanings.{Meaning}
 use Rattle.nodes.specs.Layout.{record_image, RecordFits}
 use Rattle.nodes.specs.Meanings.{record_of}

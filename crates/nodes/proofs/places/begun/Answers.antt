@@ -1,4 +1,4 @@
-use Rattle.std.proofs.Common.{◌≡◌, ℕ, List, [], ◌∷◌, length, replicate, sym, refl, ap, ◌∙◌, arith, lit≤}
+use Rattle.std.proofs.Common.{◌≡◌, ℕ, List, [], ◌∷◌, length, replicate, refl, ap, ◌∙◌, arith, lit≤}
 use Rattle.numbers.specs.BigEndian.{written}
 use Rattle.nodes.specs.Sorts.{sort_number}
 use Rattle.nodes.specs.Layout.{padded}

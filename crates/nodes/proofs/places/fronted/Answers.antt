@@ -1,4 +1,4 @@
-use Rattle.std.proofs.Common.{◌≡◌, length, sym, refl, ap, ◌∙◌, arith, lit≤}
+use Rattle.std.proofs.Common.{◌≡◌, length, ap, ◌∙◌, arith}
 use Rattle.nodes.specs.Layout.{padded, front_bytes}
 use Rattle.nodes.proofs.Padding.{length_padded}
 use Rattle.nodes.proofs.Spelling.{length_front}

@@ -1,4 +1,4 @@
-use Rattle.std.proofs.Common.{◌≡◌, ℕ, ◌+◌, ◌-◌, List, ◌++◌, length, take, sym, ap, ◌∙◌, arith}
+use Rattle.std.proofs.Common.{ℕ, ◌+◌, ◌-◌, List, ◌++◌, length, take, ap, ◌∙◌, arith}
 use borrow.Rule.Slice.PartMut.{post_of, Post-is}
 use Rattle.numbers.proofs.Spelling.{bytes_from_cells}
 use Rattle.nodes.proofs.Padding.{written_part}

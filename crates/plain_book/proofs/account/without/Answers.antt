@@ -1,4 +1,4 @@
-use Rattle.std.proofs.Common.{◌≡◌, ℕ, List, sym, ap, ◌∙◌, arith}
+use Rattle.std.proofs.Common.{ℕ, List, ap, ◌∙◌, arith}
 use Rattle.std.specs.List.{prefix_len}
 use Rattle.plain_book.proofs.Positions.{unlike, found_removed, not_found_kept}
 use Rattle.plain_book.proofs.account.without.Goals as goal

@@ -1,4 +1,4 @@
-use Rattle.std.proofs.Common.{◌≡◌, ℕ, ◌<◌, min, length, sym, ◌∙◌, arith}
+use Rattle.std.proofs.Common.{length, arith}
 use Rattle.std.proofs.lemmas.List.{length-take}
 use Rattle.plain_book.proofs.Lookups.{fill_more, fill_all}
 use Rattle.plain_book.proofs.looking.fill.Goals as goal

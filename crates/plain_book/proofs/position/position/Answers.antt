@@ -1,4 +1,4 @@
-use Rattle.std.proofs.Common.{◌≡◌, ℕ, ◌<◌, not, length, get_or, sym, ap, arith}
+use Rattle.std.proofs.Common.{not, get_or, sym, ap, arith}
 use Rattle.std.proofs.lemmas.Bool.{eq-eqb, ne_eqb}
 use Rattle.plain_book.proofs.Positions.{unlike, front_more, front_ends, front_all}
 use Rattle.plain_book.proofs.position.position.Goals as goal

@@ -1,4 +1,4 @@
-use Rattle.std.proofs.Common.{ℕ, ◌+◌, ◌<◌, ◌≤◌, arith}
+use Rattle.std.proofs.Common.{arith}
 use Rattle.batches.specs.Reading.{rows_in}
 use Rattle.plain_book.proofs.LineByLine.{before_more, before_all}
 use Rattle.plain_book.proofs.reading.row_of.Goals as goal

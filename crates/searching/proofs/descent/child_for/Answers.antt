@@ -1,7 +1,6 @@
-use Rattle.std.proofs.Common.{◌≡◌, ℕ, ◌+◌, ◌<◌, ◌≤◌, List, [], ◌∷◌, map, length, get_or, take, drop, Some, sym, refl, ap, ◌∙◌, arith}
-use Rattle.nodes.specs.Layout.{InnerPage}
+use Rattle.std.proofs.Common.{get_or, Some, ap, ◌∙◌, arith}
 use Rattle.nodes.specs.Meanings.{row_of, inner_of}
-use Rattle.searching.proofs.Choosing.{Chosen, chosen_none, taken_there, length_taken, never_unanswered, stops, goes_on, ends}
+use Rattle.searching.proofs.Choosing.{chosen_none, taken_there, length_taken, never_unanswered, stops, goes_on, ends}
 use Rattle.searching.proofs.descent.child_for.Goals as goal
 
 pub loop-i-init : goal.loop-i-init

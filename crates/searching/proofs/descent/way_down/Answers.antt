@@ -1,5 +1,4 @@
-use Rattle.std.proofs.Common.{◌≡◌, ℕ, suc, ◌+◌, ◌<◌, ◌≤◌, true, List, Ok, Result, sym, refl, ap, ◌∙◌, subst, inl, inr, arith, rules, MatchResult}
-use Rattle.refusals.specs.declared.Refusal.{Refusal}
+use Rattle.std.proofs.Common.{◌≡◌, ℕ, Ok, sym, refl, ap, ◌∙◌, subst, inl, inr, arith, rules}
 use Rattle.page_store.specs.Meanings.{Meaning}
 use Rattle.nodes.specs.Layout.{inner_image, InnerFits, leaf_image, LeafFits}
 use Rattle.nodes.specs.Meanings.{inner_of, leaf_of}
@@ -7,7 +6,7 @@ use Rattle.searching.specs.declared.arrival.Descent.{Descent}
 use Rattle.searching.specs.NodeReads.{NodeRead}
 use Rattle.std.proofs.lemmas.Result.{err_from_is_err_and}
 use Rattle.searching.proofs.ReadValues.{read_shows_damage}
-use Rattle.searching.proofs.Onwards.{Onward, onward_start, onward_more, node_is_read, child_is_chosen, leaf_is_read, arrives}
+use Rattle.searching.proofs.Onwards.{onward_start, onward_more, node_is_read, child_is_chosen, leaf_is_read, arrives}
 use Rattle.searching.proofs.descent.way_down.Goals as goal
 
 pub loop-level-init : goal.loop-level-init

@@ -1,4 +1,4 @@
-use Rattle.std.proofs.Common.{◌≡◌, Some, sym, ap, ◌∙◌, arith}
+use Rattle.std.proofs.Common.{Some, sym, ap, ◌∙◌, arith}
 use Rattle.batches.specs.Reading.{cell_of}
 use Rattle.batches.proofs.Cells.{sign_line, no_refusal}
 use Rattle.refusals.specs.Refusals.{number_of, place_of}

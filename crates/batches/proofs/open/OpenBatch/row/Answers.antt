@@ -1,4 +1,4 @@
-use Rattle.std.proofs.Common.{◌≡◌, sym, ap, ◌∙◌, arith}
+use Rattle.std.proofs.Common.{◌∙◌, arith}
 use Rattle.batches.proofs.Rowwise.{rows_counted, length_counted, key_of_row, first_of_row, count_of_row}
 use Rattle.batches.proofs.open.OpenBatch.row.Goals as goal
 

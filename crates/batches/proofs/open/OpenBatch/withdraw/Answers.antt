@@ -1,4 +1,4 @@
-use Rattle.std.proofs.Common.{◌≡◌, length, ap, ◌∙◌}
+use Rattle.std.proofs.Common.{length, ap, ◌∙◌}
 use Rattle.batches.specs.Layout.{lines_of}
 use Rattle.batches.specs.Reading.{rows_in}
 use Rattle.batches.proofs.Rowwise.{lines_counted}

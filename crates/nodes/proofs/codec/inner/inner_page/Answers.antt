@@ -1,4 +1,4 @@
-use Rattle.std.proofs.Common.{◌≡◌, ℕ, ◌+◌, ◌<◌, ◌≤◌, List, ◌++◌, map, length, get_or, take, sym, refl, ap, ◌∙◌, subst, arith, lit≤}
+use Rattle.std.proofs.Common.{◌+◌, ◌<◌, List, ◌++◌, map, length, sym, refl, ap, ◌∙◌, subst, arith, lit≤}
 use Rattle.std.proofs.lemmas.List.{length-map, take-map, length-append}
 use Rattle.numbers.specs.BigEndian.{bytes_of}
 use Rattle.nodes.specs.declared.sort.PageSort.TheVariants.{Inner}
@@ -6,7 +6,7 @@ use Rattle.nodes.specs.Layout.{padded, InnerRow, front_bytes, row_bytes, RowFits
 use Rattle.nodes.specs.Readings.{inner_in}
 use Rattle.nodes.specs.Meanings.{row_of, inner_with, inner_of}
 use Rattle.nodes.specs.Codec.{Spells}
-use Rattle.nodes.proofs.Padding.{filled_start, filled_next, length_padded}
+use Rattle.nodes.proofs.Padding.{filled_next, length_padded}
 use Rattle.nodes.proofs.Spelling.{length_front, made_inner, encoded, inner_back}
 use Rattle.nodes.proofs.Writing.{inner_started, inner_encoded, meant_there}
 use Rattle.nodes.proofs.codec.inner.inner_page.Goals as goal

@@ -1,4 +1,4 @@
-use Rattle.std.proofs.Common.{◌≡◌, ℕ, ◌<◌, ◌≤◌, List, map, length, get_or, take, sym, refl, ap, ◌∙◌, subst, arith, lit≤}
+use Rattle.std.proofs.Common.{◌<◌, List, map, length, sym, ap, ◌∙◌, subst, arith, lit≤}
 use Rattle.std.proofs.lemmas.List.{length-map, take-map}
 use Rattle.nodes.specs.declared.sort.PageSort.TheVariants.{Leaf}
 use Rattle.nodes.specs.Layout.{LeafEntry, front_bytes, entry_bytes, EntryFits, leaf_image, LeafFits}

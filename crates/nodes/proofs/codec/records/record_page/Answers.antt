@@ -1,4 +1,4 @@
-use Rattle.std.proofs.Common.{◌≡◌, ℕ, ◌^◌, ◌<◌, ◌≤◌, length, get_or, take, sym, refl, ap, ◌∙◌, arith, lit≤}
+use Rattle.std.proofs.Common.{◌^◌, ◌<◌, length, get_or, refl, arith, lit≤}
 use Rattle.std.proofs.lemmas.List.{get_or_default}
 use Rattle.numbers.specs.BigEndian.{bytes_of}
 use Rattle.nodes.specs.declared.sort.PageSort.TheVariants.{Record}

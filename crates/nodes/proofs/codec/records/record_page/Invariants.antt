@@ -1,4 +1,4 @@
-use Rattle.std.proofs.Common.{ℕ, ◌^◌, ◌<◌, take}
+use Rattle.std.proofs.Common.{◌^◌, ◌<◌, take}
 use Rattle.nodes.specs.declared.sort.PageSort.TheVariants.{Record}
 use Rattle.numbers.specs.BigEndian.{bytes_of}
 use Rattle.nodes.specs.Layout.{front_bytes}

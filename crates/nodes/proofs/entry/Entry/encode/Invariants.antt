@@ -1,4 +1,4 @@
-use Rattle.std.proofs.Common.{◌≡◌, ℕ, ◌^◌, ◌<◌, ◌++◌, take}
+use Rattle.std.proofs.Common.{◌^◌, ◌<◌, ◌++◌, take}
 use Rattle.numbers.specs.BigEndian.{bytes_of}
 use Rattle.nodes.proofs.Padding.{Filled}
 use Rattle.nodes.proofs.entry.Entry.encode.Given as goal

@@ -1,5 +1,4 @@
-use Rattle.std.proofs.Common.{◌≡◌, get_or, sym, refl, ap, ◌∙◌}
-use Rattle.nodes.specs.Readings.{header_in}
+use Rattle.std.proofs.Common.{get_or, refl}
 use Rattle.nodes.proofs.Reading.{header_read}
 use Rattle.nodes.proofs.header.Header.read.Goals as goal
 

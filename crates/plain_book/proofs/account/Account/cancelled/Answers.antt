@@ -1,4 +1,4 @@
-use Rattle.std.proofs.Common.{◌≡◌, ℕ, ◌<◌, Bool, true, false, List, map, length, vec_items, sym, refl, ap, ◌∙◌, arith}
+use Rattle.std.proofs.Common.{◌≡◌, ℕ, ◌<◌, false, List, map, length, vec_items, ap, ◌∙◌, arith}
 use Rattle.std.specs.List.{prefix_len, insert}
 use Rattle.book.specs.Books.{has}
 use Rattle.plain_book.proofs.Positions.{unlike, lacking, found_there, not_found, found_removed}

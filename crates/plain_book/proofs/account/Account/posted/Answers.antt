@@ -1,4 +1,4 @@
-use Rattle.std.proofs.Common.{◌≡◌, ℕ, ◌<◌, ◌≤◌, List, [], ◌∷◌, ◌++◌, map, length, vec_items, sym, refl, ap, ◌∙◌, arith}
+use Rattle.std.proofs.Common.{◌≡◌, ℕ, ◌≤◌, List, [], ◌∷◌, ◌++◌, length, vec_items, ap, ◌∙◌, arith}
 use Rattle.std.specs.List.{insert}
 use Rattle.plain_book.proofs.Accounts.{posted_joined, posted_first, posted_new}
 use Rattle.plain_book.proofs.account.Account.posted.Goals as goal

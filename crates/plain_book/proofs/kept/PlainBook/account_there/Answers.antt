@@ -1,4 +1,4 @@
-use Rattle.std.proofs.Common.{◌≡◌, None, sym, ap, ◌∙◌}
+use Rattle.std.proofs.Common.{None, sym, ◌∙◌}
 use Rattle.plain_book.specs.Kept.{entries_in}
 use Rattle.plain_book.proofs.Places.{found_there, found_nowhere, found_is_value}
 use Rattle.plain_book.proofs.kept.PlainBook.account_there.Goals as goal

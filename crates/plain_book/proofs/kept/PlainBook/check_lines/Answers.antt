@@ -1,6 +1,6 @@
 use Rattle.std.proofs.Common.{◌≡◌, ◌+◌, Bool, drop, sym, ap, ◌∙◌, arith}
 use Rattle.std.proofs.lemmas.Result.{err_from_is_err_and}
-use Rattle.refusals.specs.Refusals.{Answer, Accepted, Refused, and_then, number_of, place_of}
+use Rattle.refusals.specs.Refusals.{Answer, Accepted, and_then}
 use Rattle.batches.specs.Reading.{rows_in}
 use Rattle.book.specs.Merging.{Booking, lines_under, standing}
 use Rattle.plain_book.specs.Kept.{entries_in}

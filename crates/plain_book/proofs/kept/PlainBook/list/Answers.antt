@@ -1,4 +1,4 @@
-use Rattle.std.proofs.Common.{◌≡◌, ℕ, ◌-◌, ◌*◌, ◌/◌, min, List, ◌++◌, length, take, drop, sym, ap, ◌∙◌}
+use Rattle.std.proofs.Common.{ℕ, ◌-◌, ◌*◌, ◌/◌, min, List, ◌++◌, length, take, drop, ap, ◌∙◌}
 use Rattle.book.specs.Entries.{book_of}
 use Rattle.plain_book.specs.Accounts.{entries_of}
 use Rattle.plain_book.specs.Kept.{entries_in}

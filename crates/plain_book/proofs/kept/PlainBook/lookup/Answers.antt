@@ -1,4 +1,4 @@
-use Rattle.std.proofs.Common.{◌≡◌, ℕ, List, ◌++◌, length, take, drop, sym, ap, ◌∙◌, arith}
+use Rattle.std.proofs.Common.{ℕ, List, ◌++◌, length, take, drop, ap, ◌∙◌, arith}
 use Rattle.plain_book.specs.Kept.{entries_in}
 use Rattle.plain_book.proofs.Lookups.{some_cond, looked_up}
 use Rattle.plain_book.proofs.kept.PlainBook.lookup.Goals as goal

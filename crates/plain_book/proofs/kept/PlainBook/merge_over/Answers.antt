@@ -1,4 +1,4 @@
-use Rattle.std.proofs.Common.{◌≡◌, ℕ, List, sym, refl, ap, ◌∙◌, subst, arith}
+use Rattle.std.proofs.Common.{refl, subst, arith}
 use Rattle.std.proofs.lemmas.List.{length-map}
 use Rattle.refusals.specs.Refusals.{number_of, place_of}
 use Rattle.numbers.specs.BigEndian.{Bytes}

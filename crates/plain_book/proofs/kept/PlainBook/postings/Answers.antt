@@ -1,5 +1,5 @@
-use Rattle.std.proofs.Common.{◌≡◌, vec_items, sym, ap, ◌∙◌, arith}
-use Rattle.book.specs.Entries.{Entry, postings_in}
+use Rattle.std.proofs.Common.{◌≡◌, vec_items, ap, ◌∙◌}
+use Rattle.book.specs.Entries.{postings_in}
 use Rattle.plain_book.specs.Accounts.{entry_in, entries_of}
 use Rattle.plain_book.specs.Places.{found_in}
 use Rattle.plain_book.proofs.Places.{made_so, found_there}

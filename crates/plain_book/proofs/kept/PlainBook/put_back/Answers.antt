@@ -1,4 +1,4 @@
-use Rattle.std.proofs.Common.{◌≡◌, sym}
+use Rattle.std.proofs.Common.{sym}
 use Rattle.plain_book.specs.Accounts.{entry_in}
 use Rattle.plain_book.specs.Kept.{entries_in}
 use Rattle.plain_book.proofs.Places.{put_none, put_some}

@@ -1,4 +1,4 @@
-use Rattle.std.proofs.Common.{◌≡◌, sym, ap, ◌∙◌, arith}
+use Rattle.std.proofs.Common.{ap, ◌∙◌}
 use Rattle.book.specs.Books.{has}
 use Rattle.book.specs.Entries.{Entry, postings_in}
 use Rattle.plain_book.proofs.Places.{found_there}

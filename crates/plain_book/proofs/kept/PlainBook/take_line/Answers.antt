@@ -1,10 +1,10 @@
-use Rattle.std.proofs.Common.{◌≡◌, List, length, sym, ap, ◌∙◌, arith}
+use Rattle.std.proofs.Common.{length, ap, ◌∙◌, arith}
 use Rattle.std.proofs.lemmas.List.{length-map}
 use Rattle.book.specs.Merging.{applied}
 use Rattle.book.specs.Entries.{paged}
 use Rattle.plain_book.specs.Accounts.{held_in, entries_of}
 use Rattle.plain_book.specs.Kept.{entries_in}
-use Rattle.plain_book.proofs.Places.{made_so, room_left, line_spliced}
+use Rattle.plain_book.proofs.Places.{room_left, line_spliced}
 use Rattle.plain_book.proofs.kept.PlainBook.take_line.Goals as goal
 
 pub put_back-requires : goal.put_back-requires

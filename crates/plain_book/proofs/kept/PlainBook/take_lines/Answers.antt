@@ -1,4 +1,4 @@
-use Rattle.std.proofs.Common.{◌≡◌, ◌+◌, drop, sym, ap, ◌∙◌, arith}
+use Rattle.std.proofs.Common.{◌+◌, drop, sym, ap, ◌∙◌, arith}
 use Rattle.batches.specs.Reading.{rows_in}
 use Rattle.book.specs.Merging.{Booking, lines_under}
 use Rattle.plain_book.specs.Kept.{entries_in}
