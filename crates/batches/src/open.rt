@@ -1,10 +1,10 @@
-ghost use Rattle.std.specs.Prelude.{◌≡◌, true};
+ghost use Rattle.std.specs.Prelude.{◌≡◌, true, false};
 ghost use Rattle.batches.specs.Opening.{opens};
 
 /// A batch that opened, over its bytes. It ends merged or withdrawn; letting it go is refused.
 pub struct OpenBatch<'a> {
     pub(crate) bytes: &'a [u8],
-    pub(crate) ended: bool,
+    ended: bool,
     ghost opened: { opens bytes.now ≡ true },
 }
 
@@ -17,6 +17,18 @@ impl Drop for OpenBatch<'_> {
 }
 
 impl<'a> OpenBatch<'a> {
+    // A batch over bytes that open, neither merged nor withdrawn.
+    pub(crate) fn over(bytes: &'a [u8]) -> OpenBatch<'a>
+        requires { opens bytes.now ≡ true }
+        ensures is_over_these_bytes { result.bytes ≡ bytes.entry }
+        ensures is_neither_merged_nor_withdrawn { result.ended ≡ false }
+    {
+        OpenBatch {
+            bytes,
+            ended: false,
+        }
+    }
+
     // Spends the batch: only a merge and a withdrawal do.
     pub(crate) fn spend(mut self) -> &'a [u8]
         ensures are_its_bytes { result ≡ self.entry.bytes }

@@ -25,10 +25,7 @@ impl<'a> OpenBatch<'a> {
         ensures is_over_these_bytes { result.bytes ≡ bytes.entry }
         ensures is_neither_merged_nor_withdrawn { result.ended ≡ false }
     {
-        OpenBatch {
-            bytes,
-            ended: false,
-        }
+        OpenBatch::over(bytes)
     }
 
     /// The bytes, as they were handed in.
