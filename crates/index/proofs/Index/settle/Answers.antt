@@ -3,11 +3,8 @@ use Rattle.calls.specs.States.{state_of}
 use Rattle.calls.proofs.Carrying.{unmoved}
 use Rattle.index.proofs.Index.settle.Goals as goal
 
-pub returns : goal.returns
-returns g c =
-    let before = (state_of (g.S.PageStore.meaning c.args.self.now.store) c.args.self.now.«open» (g.S.PageStore.settled c.args.self.now.store)) in
-    let after = (state_of (g.S.PageStore.meaning c.settle.new.self) c.args.self.now.«open» (g.S.PageStore.settled c.settle.new.self)) in
-    record {
-      settles_the_store = record { leaves_the_pages = c.settle.ensures.keeps_the_meaning; leaves_the_openness = refl; settles_the_store = c.settle.ensures.is_settled };
-      carries_on_what_stands = λ batches standing. unmoved g.K.KeyKind.kind batches before after c.settle.ensures.keeps_the_meaning refl standing;
-    }
+pub returns-clause-carries_on_what_stands : goal.returns-clause-carries_on_what_stands
+returns-clause-carries_on_what_stands g c =
+    let before = state_of (g.S.PageStore.meaning c.args.self.now.store) c.args.self.now.«open» (g.S.PageStore.settled c.args.self.now.store) in
+    let after = state_of (g.S.PageStore.meaning c.settle.new.self) c.args.self.now.«open» (g.S.PageStore.settled c.settle.new.self) in
+    λ batches standing. unmoved g.K.KeyKind.kind batches before after c.settle.ensures.keeps_the_meaning refl standing
