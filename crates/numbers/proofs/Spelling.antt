@@ -105,6 +105,9 @@ bytes_from_cells [] h = tt
 bytes_from_cells (x ∷ xs) h = (h 0, bytes_from_cells xs (λ i. h (suc i)))
 
 -- bytes as quotients by powers of 256
+pub two_bytes_of : (n : ℕ) → bytes_of 2 n ≡ (n / 256 % 256) ∷ (n % 256) ∷ []
+two_bytes_of n = refl
+
 pub four_bytes_of : (n : ℕ) → bytes_of 4 n ≡ (n / 16777216 % 256) ∷ (n / 65536 % 256) ∷ (n / 256 % 256) ∷ (n % 256) ∷ []
 four_bytes_of n =
     let a : n / 256 / 256 ≡ n / 65536 = omega arith in

@@ -1,8 +1,12 @@
 //! Why the kernel refuses a call: one enum for all layers, each case with its number and its place.
 #![tactic(auto)]
 
-ghost use Rattle.std.specs.Prelude.{◌≡◌, ℕ, true};
+ghost use Rattle.std.specs.Prelude.{◌≡◌, ℕ, true, Some};
 ghost use Rattle.refusals.specs.Refusals.{number_of, place_of, NumberAndPlaceTellRefusalsApart};
+ghost use Rattle.refusals.specs.Printing.{refusal_text};
+
+use std::error::Error;
+use std::fmt;
 
 /// A refusal changes nothing. Rows, lines and pages count from 0, the steps of opening a batch from 1.
 #[derive(Clone, Copy, PartialEq, Eq, Debug)]
@@ -36,6 +40,7 @@ pub enum Refusal {
 }
 
 impl Refusal {
+    // The numbers are those of the rules, which packages print and compare.
     pub fn number(self) -> u8
         ensures is_the_number { result ≡ number_of self }
     {
@@ -69,19 +74,22 @@ impl Refusal {
     }
 }
 
-// The theorem, and nothing else.
-fn told_apart() -> bool
-    ensures is_true { result ≡ true }
-    ensures tell_apart { NumberAndPlaceTellRefusalsApart }
-{
-    true
+/// Prints as its number and its place.
+impl fmt::Display for Refusal {
+    ghost output = { λ refusal. Some (refusal_text refusal) };
+
+    fn fmt<W: fmt::Write>(&self, f: &mut fmt::Formatter<W>) -> fmt::Result {
+        write!(f, "{} at place {}", self.number(), self.place())
+    }
 }
+
+impl Error for Refusal {}
 
 /// A refusal is known by its number and its place.
 pub fn number_and_place_tell_refusals_apart() -> bool
     ensures is_true { result ≡ true }
     ensures tell_apart { NumberAndPlaceTellRefusalsApart }
 {
-    let apart = told_apart();
+    let apart = true;
     apart
 }
