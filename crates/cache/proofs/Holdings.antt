@@ -1,13 +1,18 @@
 -- Held pages put into a store: what each change of what is held, or of the store below, does to the whole.
-use Rattle.std.proofs.Common.{◌≡◌, ℕ, zero, suc, ◌+◌, ◌<◌, true, false, not, eqb, ◌≢◌, ◌⊎◌, List, [], ◌∷◌, ◌++◌, length, get_or, take, set, sym, refl, ap, ◌∙◌, inl, inr, ⊎_elim, arith}
-use Rattle.std.proofs.lemmas.List.{take_more}
+use Rattle.std.proofs.Common.{◌≡◌, ℕ, zero, suc, ◌+◌, ◌<◌, true, false, not, eqb, ◌≢◌, ◌⊎◌, List, [], ◌∷◌, ◌++◌, length, get_or, take, set, drop, sym, refl, ap, ◌∙◌, subst, inl, inr, ⊎_elim, arith, ltb, Option, Some, None, MatchOption}
+use Rattle.std.specs.List.{position, position_or_len, refill}
+use Rattle.std.proofs.lemmas.List.{take_more, take_at, length-set, length-map, map-set, map-append, get_or-map, set-get_or}
+use Rattle.std.proofs.lemmas.List.Sums.{passes_at_first, fails_before_first}
 use Rattle.std.proofs.ByRecursion.{has_get_or, All-from_get_or}
 use Rattle.std.proofs.lemmas.Slice.Eq.{bytes_eq-Decides}
-use Rattle.std.proofs.lemmas.Bool.{eq-eqb, ne_eqb, eqb-false, or_parts, or_from, or_left, or_right, and_parts, and_from, not-true, not_from_false, both_ways}
+use Rattle.std.proofs.lemmas.Bool.{eq-eqb, ne_eqb, eqb-true, eqb-false, ltb-true, ltb-false, cond_both, or_parts, or_from, or_left, or_right, and_parts, and_from, not-true, not_from_false, both_ways}
 use Rattle.page_store.specs.Meanings.{Page, Live, Gone, Meaning, Sound, count_of, page_at, with_page, read_answer, after_read}
 use Rattle.page_store.proofs.Laws.{count_with, page_with, page_beside, with_again, with_two, sound_with}
 use Rattle.cache.specs.declared.held.Held.{Held}
-use Rattle.cache.specs.Holding.{put_in, holds, all_apart, same_page, same_pages, same_meaning, Spares}
+use Rattle.cache.specs.declared.held.Entry.{Entry}
+use Rattle.cache.specs.declared.held.Mark.{Mark}
+use Rattle.cache.specs.declared.held.Mark.TheVariants.{Clean}
+use Rattle.cache.specs.Holding.{pages_of, put_in, holds, all_apart, same_page, same_pages, same_meaning, Spares}
 
 pub count_in : (hs : List Held) (m : Meaning) → count_of (put_in hs m) ≡ count_of m
 count_in [] m = refl
@@ -134,9 +139,53 @@ apart_set (x ∷ hs) (suc i) d h a l e =
     (not_from_false (holds (set hs i h) x.page) (holds_set hs i h x.page (not-true (holds hs x.page) p.0) other))
     (apart_set hs i d h p.1 (omega arith) (⊎_elim (λ o. inl (or_parts (eqb h.page x.page) (holds hs h.page) o).1) (λ z. inr z) e))
 
--- the pages so far, one more
-pub holds_take : (hs : List Held) (i : ℕ) (d : Held) (n : ℕ) → i < length hs → holds (take i hs) n ≡ false → ((get_or hs i d).page ≡ n → ⊥) → holds (take (i + 1) hs) n ≡ false
-holds_take hs i d n l e ne = rw (take_more hs i d l) (holds_more (take i hs) (get_or hs i d) n e (λ z. ne (sym z)))
+holds_none : (es : List Entry) (n : ℕ) → ((k : ℕ) (d : Entry) → k < length es → eqb (get_or es k d).held.page n ≡ false) → holds (pages_of es) n ≡ false
+holds_none [] n h = refl
+holds_none (e ∷ es) n h =
+    or_from (eqb n e.held.page) (holds (pages_of es) n)
+    (ne_eqb n e.held.page (λ z. eqb-false e.held.page n (h 0 e (omega arith)) (sym z)))
+    (holds_none es n (λ k d l. h (suc k) d (omega arith)))
+
+-- the first place with a page, or none if it is not held
+pub place_found : (es : List Entry) (n : ℕ) (r : Option ℕ) → r ≡ position (λ (entry : Entry). eqb entry.held.page n) es
+    → MatchOption r (holds (pages_of es) n ≡ false) (λ i. (i < length (pages_of es)) × ((d : Held) → (get_or (pages_of es) i d).page ≡ n))
+place_found es n r is =
+    let test = λ (entry : Entry). eqb entry.held.page n in
+    let i = position_or_len test es in
+    let P : Option ℕ → Type 0 = λ o. MatchOption o (holds (pages_of es) n ≡ false) (λ (j : ℕ). (j < length (pages_of es)) × ((d : Held) → (get_or (pages_of es) j d).page ≡ n)) in
+    let all = length-map es (λ (entry : Entry). entry.held) in
+    subst P (sym is)
+    (cond_both (ltb i (length es)) (Some i) None P
+    (λ t.
+    let l = ltb-true i (length es) t in (
+      omega arith,
+      (λ (d : Held).
+          let e : Entry = record { held = d; mark = Clean } in
+          ap (λ (h : Held). h.page) (get_or-map (λ (entry : Entry). entry.held) es i e d l) ∙ eqb-true (get_or es i e).held.page n (passes_at_first test es e l)),
+    ))
+    (λ t. holds_none es n (λ k d l. fails_before_first test es k d (omega (arith, ltb-false i (length es) t)))))
+
+-- an entry written over one of those that are lent, and one more behind them
+pub pages_set : (es lent : List Entry) (i : ℕ) (e : Entry) → lent ≡ es → pages_of (refill (length es) es (set lent i e)) ≡ set (pages_of es) i e.held
+pages_set es lent i e is =
+    let long : length (set lent i e) ≡ length es = length-set lent i e ∙ ap length is in
+    ap pages_of (take_at (set lent i e) (drop (length (set lent i e)) es) (length es) long ∙ ap (λ (xs : List Entry). set xs i e) is)
+    ∙ map-set (λ (entry : Entry). entry.held) es i e
+
+-- the entries back from a loan
+pub pages_back : (es lent : List Entry) → length lent ≡ length es → pages_of (refill (length es) es lent) ≡ pages_of lent
+pages_back es lent long = ap pages_of (take_at lent (drop (length lent) es) (length es) long)
+
+-- another mark changes no page
+pub pages_marked : (es : List Entry) (i : ℕ) (d : Entry) (mark : Mark) → i < length es → pages_of (set es i (record { held = (get_or es i d).held; mark = mark })) ≡ pages_of es
+pages_marked es i d mark l =
+    let hs = pages_of es in
+    map-set (λ (entry : Entry). entry.held) es i (record { held = (get_or es i d).held; mark = mark })
+    ∙ ap (set hs i) (sym (get_or-map (λ (entry : Entry). entry.held) es i d d.held l))
+    ∙ set-get_or hs i d.held
+
+pub pages_push : (es : List Entry) (e : Entry) → pages_of (es ++ (e ∷ [])) ≡ pages_of es ++ (e.held ∷ [])
+pages_push es e = map-append (λ (entry : Entry). entry.held) es (e ∷ [])
 
 -- the pages before a place hold none of that place
 pub before_missed : (hs : List Held) (i : ℕ) (d : Held) → all_apart hs ≡ true → i < length hs → holds (take i hs) (get_or hs i d).page ≡ false
@@ -204,12 +253,6 @@ is_pages (p ∷ ps) (q ∷ qs) e =
 pub same_is_equal : (m k : Meaning) → same_meaning m k ≡ true → m ≡ k
 unfolding same_meaning
 same_is_equal m k e = ap (λ (ps : List Page). record { pages = ps }) (is_pages m.pages k.pages e)
-
-pub take_set_in : {X : Type 0} (n : ℕ) (xs : List X) (i : ℕ) (x : X) → take n (set xs i x) ≡ set (take n xs) i x
-take_set_in zero xs i x = refl
-take_set_in (suc n) [] i x = refl
-take_set_in (suc n) (y ∷ xs) zero x = refl
-take_set_in (suc n) (y ∷ xs) (suc i) x = ap (λ t. y ∷ t) (take_set_in n xs i x)
 
 -- some page that is held, to stand where a default is asked for
 pub any_held : (hs : List Held) (i : ℕ) → i < length hs → Held

@@ -1,9 +1,14 @@
 -- Pages held above a store, and what store and held pages mean together.
-use Rattle.std.specs.Prelude.{◌≡◌, ℕ, ◌<◌, Bool, true, false, not, ◌&&◌, ◌||◌, ◌≢◌, ◌⊎◌, List, [], ◌∷◌, length, ◌==◌}
+use Rattle.std.specs.Prelude.{◌≡◌, ℕ, ◌<◌, Bool, true, false, not, ◌&&◌, ◌||◌, ◌≢◌, ◌⊎◌, List, [], ◌∷◌, map, length, ◌==◌}
 use Rattle.std.specs.List.{ContainsAt as Has}
 use Rattle.std.specs.Str.{bytes_eq}
 use Rattle.page_store.specs.Meanings.{Page, Live, Gone, Meaning, with_page}
 use Rattle.cache.specs.declared.held.Held.{Held}
+use Rattle.cache.specs.declared.held.Entry.{Entry}
+
+-- the pages that stand in these places
+abbrev pub pages_of : List Entry → List Held
+pages_of entries = map (λ entry. entry.held) entries
 
 -- the store below with the held pages put in
 abbrev pub put_in : List Held → Meaning → Meaning

@@ -39,18 +39,18 @@ impl<'a, S> Counting<'a, S> {
 }
 
 impl<'a, S: PageStore> PageStore for Counting<'a, S> {
-    ghost meaning = { λ s. S.PageStore.meaning s.below.now };
+    ghost meaning = { λ s. S.meaning s.below.now };
 
-    ghost settled = { λ s. S.PageStore.settled s.below.now };
+    ghost settled = { λ s. S.settled s.below.now };
 
     fn count(&self) -> u32 {
         self.below.count()
     }
 
     fn read(&mut self, page: u32, buffer: &mut [u8]) -> Result<(), Refusal>
-        ensures answers_by_the_meaning { answer_of result ≡ read_answer (S.PageStore.meaning self.old.below.now) page (length buffer.old) }
-        ensures keeps_the_meaning { S.PageStore.meaning self.new.below.now ≡ S.PageStore.meaning self.old.below.now }
-        ensures fills_the_buffer { buffer.new ≡ after_read (S.PageStore.meaning self.old.below.now) page buffer.old }
+        ensures answers_by_the_meaning { answer_of result ≡ read_answer (S.meaning self.old.below.now) page (length buffer.old) }
+        ensures keeps_the_meaning { S.meaning self.new.below.now ≡ S.meaning self.old.below.now }
+        ensures fills_the_buffer { buffer.new ≡ after_read (S.meaning self.old.below.now) page buffer.old }
         ensures counts_a_read { (self.new.reads ≡ one_more self.old.reads) × (self.new.writes ≡ self.old.writes) }
     {
         self.reads = self.reads.saturating_add(1);
@@ -58,8 +58,8 @@ impl<'a, S: PageStore> PageStore for Counting<'a, S> {
     }
 
     fn write(&mut self, page: u32, buffer: &[u8]) -> Result<(), Refusal>
-        ensures answers_by_the_meaning { answer_of result ≡ write_answer (S.PageStore.meaning self.old.below.now) page (length buffer.now) }
-        ensures changes_that_page { S.PageStore.meaning self.new.below.now ≡ after_write (S.PageStore.meaning self.old.below.now) page buffer.now }
+        ensures answers_by_the_meaning { answer_of result ≡ write_answer (S.meaning self.old.below.now) page (length buffer.now) }
+        ensures changes_that_page { S.meaning self.new.below.now ≡ after_write (S.meaning self.old.below.now) page buffer.now }
         ensures counts_a_write { (self.new.writes ≡ one_more self.old.writes) × (self.new.reads ≡ self.old.reads) }
     {
         self.writes = self.writes.saturating_add(1);
@@ -67,8 +67,8 @@ impl<'a, S: PageStore> PageStore for Counting<'a, S> {
     }
 
     fn settle(&mut self)
-        ensures keeps_the_meaning { S.PageStore.meaning self.new.below.now ≡ S.PageStore.meaning self.old.below.now }
-        ensures is_settled { S.PageStore.settled self.new.below.now ≡ true }
+        ensures keeps_the_meaning { S.meaning self.new.below.now ≡ S.meaning self.old.below.now }
+        ensures is_settled { S.settled self.new.below.now ≡ true }
         ensures counts_nothing { (self.new.reads ≡ self.old.reads) × (self.new.writes ≡ self.old.writes) }
     {
         self.below.settle();

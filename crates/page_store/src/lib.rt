@@ -1,7 +1,7 @@
 //! The page store: numbered pages of 512 bytes, each of them readable or lost.
 #![tactic(auto)]
 
-ghost use Rattle.std.specs.Prelude.{◌≡◌, ℕ, Bool, true, length};
+ghost use Rattle.std.specs.Prelude.{◌≡◌, ℕ, ◌<◌, Bool, true, length, OnOk};
 ghost use Rattle.refusals.specs.Refusals.{answer_of};
 ghost use Rattle.page_store.specs.Meanings.{Meaning, Sound, count_of, done, reached, read_answer, write_answer, after_read, after_write};
 
@@ -44,6 +44,7 @@ pub trait PageStore {
 /// Whether a call reaches a page at all, for makers of stores: a buffer of one page, then a number below the count.
 pub fn reach(count: u32, page: u32, len: usize) -> Result<(), Refusal>
     ensures looks_at_the_buffer_first { answer_of result ≡ reached count page len done }
+    ensures accepts_only_a_page_that_is_there { OnOk result ((len ≡ 512) × (page < count)) }
 {
     if len != PAGE_SIZE {
         return Err(Refusal::Buffer(len));

@@ -1,85 +1,54 @@
-use page_store::PageStore;
+use page_store::{PAGE_SIZE, PageStore};
 use refusals::Refusal;
 
-/// A plain list of pages, byte after byte, and which of them are lost: another way to say what a store does.
+/// A plain list of pages, none where a page is lost: another way to say what a store does.
 #[derive(Drop)]
 pub struct Plain {
-    pub bytes: Vec<u8>,
-    pub lost: Vec<bool>,
+    pub pages: Vec<Option<[u8; PAGE_SIZE]>>,
 }
 
 impl Plain {
-    fn answer(&self, page: u32, len: usize, reads: bool) -> Result<(), Refusal> {
-        if len != 512 {
+    // The page that a read into a buffer of this length finds.
+    fn read(&self, page: u32, len: usize) -> Result<&[u8; PAGE_SIZE], Refusal> {
+        if len != PAGE_SIZE {
             return Err(Refusal::Buffer(len));
         }
-        match self.lost.get(page as usize) {
+        match self.pages.get(page as usize) {
             None => Err(Refusal::Page(page)),
-            Some(lost) => {
-                if reads && *lost {
-                    return Err(Refusal::Lost(page));
-                }
-                Ok(())
-            }
+            Some(None) => Err(Refusal::Lost(page)),
+            Some(Some(bytes)) => Ok(bytes),
         }
     }
 
-    fn is_page(&self, page: u32, buffer: &[u8]) -> bool {
-        let at = 512 * page as usize;
-        for (i, byte) in buffer.iter().enumerate() {
-            if i >= 512 {
-                return false;
-            }
-            match self.bytes.get(at + i) {
-                Some(b) => {
-                    if *b != *byte {
-                        return false;
-                    }
-                }
-                None => return false,
-            }
-        }
-        true
-    }
-
-    fn put(&mut self, page: u32, byte: u8) {
-        let at = 512 * page as usize;
-        for i in 0..512 {
-            if at + i < self.bytes.len() {
-                self.bytes[at + i] = byte.wrapping_add((i % 256) as u8);
-            }
-        }
-        if (page as usize) < self.lost.len() {
-            self.lost[page as usize] = false;
-        }
+    fn write(&mut self, page: u32, buffer: &[u8]) -> Result<(), Refusal> {
+        let bytes = buffer.as_array().ok_or(Refusal::Buffer(buffer.len()))?;
+        let Some(place) = self.pages.get_mut(page as usize) else {
+            return Err(Refusal::Page(page));
+        };
+        *place = Some(*bytes);
+        Ok(())
     }
 }
 
 fn is_untouched(buffer: &[u8]) -> bool {
-    for byte in buffer {
-        if *byte != 77 {
-            return false;
-        }
-    }
-    true
+    buffer.iter().all(|byte| *byte == 77)
 }
 
 // Whether a read into a buffer of 77s answers and fills as the list says; a refused one leaves the buffer.
 fn reads_alike<S: PageStore>(store: &mut S, plain: &Plain, page: u32, buffer: &mut [u8]) -> bool {
     let answer = store.read(page, buffer);
-    let expected = plain.answer(page, buffer.len(), true);
-    if answer != expected {
-        return false;
-    }
-    match answer {
-        Ok(()) => plain.is_page(page, buffer),
-        Err(_) => is_untouched(buffer),
+    match plain.read(page, buffer.len()) {
+        Ok(bytes) => answer == Ok(()) && buffer[..] == bytes[..],
+        Err(refusal) => answer == Err(refusal) && is_untouched(buffer),
     }
 }
 
+// Bytes that rise from this one on, round and round.
 fn fill(buffer: &mut [u8], byte: u8) {
-    for (i, b) in buffer.iter_mut().enumerate() {
-        *b = byte.wrapping_add((i % 256) as u8);
+    let mut next = byte;
+    for b in buffer {
+        *b = next;
+        next = next.wrapping_add(1);
     }
 }
 
@@ -91,12 +60,7 @@ fn writes_alike<S: PageStore>(
     byte: u8,
 ) -> bool {
     fill(buffer, byte);
-    let answer = store.write(page, buffer);
-    let expected = plain.answer(page, buffer.len(), false);
-    if expected.is_ok() {
-        plain.put(page, byte);
-    }
-    answer == expected
+    store.write(page, buffer) == plain.write(page, buffer)
 }
 
 // One call that a number picks, made on both.
@@ -119,15 +83,13 @@ fn call<S: PageStore>(
 
 fn step<S: PageStore>(store: &mut S, plain: &mut Plain, pick: u32) -> bool {
     let count = store.count();
-    if count as usize != plain.lost.len() {
+    if count as usize != plain.pages.len() {
         return false;
     }
     let page = (pick >> 8) % (count % 65536 + 2);
-    if pick % 11 == 0 {
-        call(store, plain, pick, page, &mut [77; 511])
-    } else {
-        call(store, plain, pick, page, &mut [77; 512])
-    }
+    let len = if pick % 11 == 0 { 511 } else { 512 };
+    let mut buffer = [77; PAGE_SIZE];
+    call(store, plain, pick, page, &mut buffer[..len])
 }
 
 /// Whether a store and a list of pages answer alike over many calls.

@@ -16,28 +16,9 @@ pub(crate) fn stack(sealed: Vec<u8>, flat: Vec<u8>) -> Stack {
     Cache::over(Stripe::over(Sealed::over(sealed), Flat::over(flat)))
 }
 
-fn byte_at(memory: &[u8], at: usize) -> u8 {
-    match memory.get(at) {
-        Some(byte) => *byte,
-        None => 255,
-    }
-}
-
-fn set_byte(memory: &mut [u8], at: usize, byte: u8) {
-    if at < memory.len() {
-        memory[at] = byte;
-    }
-}
-
 // How many bytes are not 0.
 fn stained(memory: &[u8]) -> usize {
-    let mut count = 0;
-    for byte in memory {
-        if *byte != 0 {
-            count = usize::wrapping_add(count, 1);
-        }
-    }
-    count
+    memory.iter().filter(|byte| **byte != 0).count()
 }
 
 #[cfg(test)]
@@ -51,14 +32,15 @@ mod tests {
     #[test]
     fn stack_beside_a_list(rt: HostRuntime) -> Result<(), Fail> {
         let mut sealed = vec![in rt.alloc(); 0u8; 2164]?;
-        set_byte(&mut sealed, 519, 9);
+        if let Some(byte) = sealed.get_mut(519) {
+            *byte = 9;
+        }
         let flat = vec![in rt.alloc(); 0u8; 3589]?;
         let mut plain = Plain {
-            bytes: vec![in rt.alloc(); 0u8; 4096]?,
-            lost: vec![in rt.alloc(); false; 8]?,
+            pages: vec![in rt.alloc(); Some([0u8; 512]); 8]?,
         };
-        if plain.lost.len() > 2 {
-            plain.lost[2] = true;
+        if let Some(page) = plain.pages.get_mut(2) {
+            *page = None;
         }
         let mut stack = stack(sealed, flat);
         assert!(rt; run_beside(&mut stack, &mut plain, 1, 5000));
@@ -73,8 +55,7 @@ mod tests {
         let flat = vec![in rt.alloc(); 0u8; 3589]?;
         let other = vec![in rt.alloc(); 0u8; 2048]?;
         let mut plain = Plain {
-            bytes: vec![in rt.alloc(); 0u8; 4096]?,
-            lost: vec![in rt.alloc(); false; 8]?,
+            pages: vec![in rt.alloc(); Some([0u8; 512]); 8]?,
         };
         let mut deeper: Deeper = Cache::over(Stripe::over(
             stack(sealed, flat),
@@ -95,12 +76,7 @@ mod tests {
         assert!(rt; store.count() == 3);
         assert!(rt; store.write(1, &[1; 512]) == Ok(()));
         let memory = store.into_memory();
-        assert!(rt;
-            byte_at(&memory, 1028) == 0
-                && byte_at(&memory, 1029) == 2
-                && byte_at(&memory, 1030) == 1
-                && byte_at(&memory, 1031) == 0
-        );
+        assert!(rt; memory.get(1028..1032) == Some(&[0, 2, 1, 0]));
         assert!(rt; stained(&memory) == 514);
         Ok(())
     }

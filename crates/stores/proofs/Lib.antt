@@ -1,4 +1,4 @@
 pub mod Parts
-pub mod Slotted
+pub mod Slots
 pub mod Sealing
 pub mod Striped

@@ -34,8 +34,8 @@ module _ (m b : List ℕ) (a : ℕ) (h : a + length b ≤ length m) where
   part_above i w l = ap (part i w) back ∙ ap (take w) (drop-put_mid a (length b) m b i l (omega arith) refl)
 
 -- the same, with what stands behind the code's references and in its arithmetic
-pub same_part : (m m' : List ℕ) (a v w : ℕ) → m ≡ m' → v ≡ w → part a v m ≡ part a w m'
-same_part m m' a v w e f = rw (e, f)
+pub same_part : (m m' : List ℕ) (a a' v w : ℕ) → m ≡ m' → a ≡ a' → v ≡ w → part a v m ≡ part a' w m'
+same_part m m' a a' v w e f g = rw (e, f, g)
 
-pub put_back : (m m' b b' : List ℕ) (a v : ℕ) → m' ≡ m → b' ≡ b → v ≡ length b → a + v ≤ length m → put_mid a v m' b' ≡ written m a b
-put_back m m' b b' a v e f g h = rw (e, f) (written_is m b a v g h)
+pub put_back : (m m' b b' : List ℕ) (a a' v : ℕ) → m' ≡ m → b' ≡ b → a' ≡ a → v ≡ length b → a + v ≤ length m → put_mid a' v m' b' ≡ written m a b
+put_back m m' b b' a a' v e f i g h = rw (e, f, i) (written_is m b a v g h)

@@ -1,11 +1,20 @@
 -- The pages of a stripe, and what a write to one half leaves of them.
-use Rattle.std.proofs.Common.{◌≡◌, ℕ, ◌-◌, ◌/◌, ◌%◌, ◌<◌, cond, List, length, sym, refl, ap, ◌∙◌, ⊎_elim, arith}
+use Rattle.std.proofs.Common.{◌≡◌, ℕ, ◌-◌, ◌/◌, ◌%◌, ◌<◌, cond, List, length, sym, refl, ap, ◌∙◌, ⊎_elim, arith, Ok, Err, Result, MatchResult}
 use Rattle.std.proofs.lemmas.Bool.{cases_eq, cond-true, cond-false, eq-eqb, ne_eqb}
 use Rattle.std.proofs.lemmas.List.FromFn.{length-map-range_with_len, get_or-map-range_with_len}
+use Rattle.std.specs.Result.{IsErrAnd}
+use Rattle.std.proofs.lemmas.Result.{err_from_is_err_and}
 use Rattle.numbers.specs.BigEndian.{Bytes}
+use Rattle.refusals.specs.declared.Refusal.{Refusal}
+use Rattle.refusals.specs.declared.Refusal.TheVariants.{Lost}
+use Rattle.refusals.specs.Refusals.{answer_of}
 use Rattle.page_store.specs.Meanings.{Page, Live, Gone, Meaning, Sound, count_of, page_at, with_page, found, read_answer, write_answer, after_read}
 use Rattle.page_store.proofs.Laws.{count_with, page_with, page_beside, live_is_there, same_meaning, read_answers, read_fills, write_answers}
 use Rattle.stores.specs.Stripes.{stripe_count, is_even, stripe_page, stripe_pages, stripe_meaning, renamed}
+
+-- the page of the second half that an odd page is
+pub half_odd : (n : ℕ) → (n % 2 ≡ 0 → ⊥) → (n - 1) / 2 ≡ n / 2
+half_odd n e = omega arith
 
 module _ (a b : Meaning) where
   pub count_stripe : count_of (stripe_meaning a b) ≡ stripe_count (count_of a) (count_of b)
@@ -19,8 +28,8 @@ module _ (a b : Meaning) where
   pub even_page : (n : ℕ) → n < count_of (stripe_meaning a b) → n % 2 ≡ 0 → page_at (stripe_meaning a b) n ≡ page_at a (n / 2)
   even_page n h e = let l = count_stripe in page_stripe n (omega arith) ∙ cond-true _ _ _ (eq-eqb (n % 2) 0 e)
 
-  pub odd_page : (n : ℕ) → n < count_of (stripe_meaning a b) → (n % 2 ≡ 0 → ⊥) → page_at (stripe_meaning a b) n ≡ page_at b ((n - 1) / 2)
-  odd_page n h e = let l = count_stripe in page_stripe n (omega arith) ∙ cond-false _ _ _ (ne_eqb (n % 2) 0 e)
+  pub odd_page : (n : ℕ) → n < count_of (stripe_meaning a b) → (n % 2 ≡ 0 → ⊥) → page_at (stripe_meaning a b) n ≡ page_at b (n / 2)
+  odd_page n h e = let l = count_stripe in page_stripe n (omega arith) ∙ cond-false _ _ _ (ne_eqb (n % 2) 0 e) ∙ ap (page_at b) (half_odd n e)
 
   -- whatever is true of every page's bytes in both halves is true in the stripe
   of_both : (P : List ℕ → Type 0) → ((k : ℕ) (bytes : List ℕ) → page_at a k ≡ Live bytes → P bytes) → ((k : ℕ) (bytes : List ℕ) → page_at b k ≡ Live bytes → P bytes)
@@ -29,7 +38,7 @@ module _ (a b : Meaning) where
       let there = live_is_there (stripe_meaning a b) n bytes e in
       ⊎_elim
       (λ (even : n % 2 ≡ 0). pa (n / 2) bytes (sym (even_page n there even) ∙ e))
-      (λ odd. pb ((n - 1) / 2) bytes (sym (odd_page n there odd) ∙ e))
+      (λ odd. pb (n / 2) bytes (sym (odd_page n there odd) ∙ e))
       (cases_eq (n % 2) 0)
 
   pub sound_stripe : Sound a → Sound b → Sound (stripe_meaning a b)
@@ -67,20 +76,25 @@ module _ (a b : Meaning) (n : ℕ) (new : List ℕ) (h : n < count_of (stripe_me
       (λ odd. odd_page a' b k (omega arith) odd ∙ sym (odd_page a b k lt odd))
       (cases_eq (k % 2) 0))
 
-  pub write_odd : (n % 2 ≡ 0 → ⊥) → stripe_meaning a (with_page b ((n - 1) / 2) new) ≡ with_page (stripe_meaning a b) n new
+  pub write_odd : (n % 2 ≡ 0 → ⊥) → stripe_meaning a (with_page b (n / 2) new) ≡ with_page (stripe_meaning a b) n new
   write_odd e =
-      let b' = with_page b ((n - 1) / 2) new in
-      let lb = count_with b ((n - 1) / 2) new in
+      let b' = with_page b (n / 2) new in
+      let lb = count_with b (n / 2) new in
       let l = count_stripe a b in
       let l' = count_stripe a b' in
       let same : count_of (stripe_meaning a b') ≡ count_of (stripe_meaning a b) = l' ∙ (ap (λ x. stripe_count (count_of a) x) lb ∙ sym l) in
       differ_at (stripe_meaning a b) (stripe_meaning a b') n new h same
-      (odd_page a b' n (omega arith) e ∙ page_with b ((n - 1) / 2) new (omega arith))
+      (odd_page a b' n (omega arith) e ∙ page_with b (n / 2) new (omega arith))
       (λ k lt ne.
       ⊎_elim
       (λ (even : k % 2 ≡ 0). even_page a b' k (omega arith) even ∙ sym (even_page a b k lt even))
-      (λ odd. odd_page a b' k (omega arith) odd ∙ (page_beside b ((n - 1) / 2) ((k - 1) / 2) new (omega arith) ∙ sym (odd_page a b k lt odd)))
+      (λ odd. odd_page a b' k (omega arith) odd ∙ (page_beside b (n / 2) (k / 2) new (omega arith) ∙ sym (odd_page a b k lt odd)))
       (cases_eq (k % 2) 0))
+
+-- a refusal of a half, told by the stripe's own number
+pub told_by_its_number : {Q : Refusal → Refusal → Type 0} (answer told : Result Unit Refusal) (n : ℕ) → MatchResult answer (λ x. told ≡ Ok x) (λ e. IsErrAnd told (Q e)) → ((e y : Refusal) → Q e y → y ≡ Lost n) → answer_of told ≡ renamed (answer_of answer) n
+told_by_its_number (Ok value) told n e h = ap answer_of e
+told_by_its_number (Err refusal) told n e h = let r = err_from_is_err_and told e in ap answer_of (r.1 ∙ ap Err (h refusal r.0 r.2))
 
 -- a half's answer for a page that it has, renamed
 renamed_found : (page : Page) (n k : ℕ) → renamed (found page k) n ≡ found page n

@@ -1,3 +1,4 @@
 pub mod Slots
+pub mod FormLaws
 pub mod Memories
 pub mod Stripes

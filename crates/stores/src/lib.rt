@@ -3,5 +3,5 @@
 
 pub mod flat;
 pub mod sealed;
-mod slots;
+pub mod slotted;
 pub mod stripe;

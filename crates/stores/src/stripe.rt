@@ -31,88 +31,52 @@ impl<A, B> Stripe<A, B> {
     }
 }
 
-// Of a page that a half has, a refusal tells its loss.
-fn rename(answer: Result<(), Refusal>, page: u32) -> Result<(), Refusal>
-    ensures names_the_page { answer_of result ≡ renamed (answer_of answer) page }
-{
-    match answer {
-        Ok(()) => Ok(()),
-        Err(_) => Err(Refusal::Lost(page)),
-    }
-}
+impl<A: PageStore, B: PageStore> PageStore for Stripe<A, B> {
+    ghost meaning = { λ s. meaning_over A.meaning B.meaning s };
 
-impl<A: PageStore, B: PageStore> Stripe<A, B> {
-    fn count_pages(&self) -> u32
-        ensures is_the_count { result ≡ count_of (meaning_over A.PageStore.meaning B.PageStore.meaning self.now) }
-        ensures means_sound_pages { Sound (meaning_over A.PageStore.meaning B.PageStore.meaning self.now) }
-    {
+    ghost settled = { λ s. A.settled s.first && B.settled s.second };
+
+    fn count(&self) -> u32 {
         let shorter = self.first.count().min(self.second.count());
         (2 * shorter).min(MOST_PAGES)
     }
 
-    fn read_page(&mut self, page: u32, buffer: &mut [u8]) -> Result<(), Refusal>
-        ensures answers_by_the_meaning { answer_of result ≡ read_answer (meaning_over A.PageStore.meaning B.PageStore.meaning self.old) page (length buffer.old) }
-        ensures keeps_the_meaning { meaning_over A.PageStore.meaning B.PageStore.meaning self.new ≡ meaning_over A.PageStore.meaning B.PageStore.meaning self.old }
-        ensures fills_the_buffer { buffer.new ≡ after_read (meaning_over A.PageStore.meaning B.PageStore.meaning self.old) page buffer.old }
-        ensures keeps_the_first { A.PageStore.meaning self.new.first ≡ A.PageStore.meaning self.old.first }
-        ensures keeps_the_second { B.PageStore.meaning self.new.second ≡ B.PageStore.meaning self.old.second }
-    {
-        reach(self.count_pages(), page, buffer.len())?;
-        if page % 2 == 0 {
-            rename(self.first.read(page / 2, buffer), page)
-        } else {
-            rename(self.second.read((page - 1) / 2, buffer), page)
-        }
-    }
-
-    fn write_page(&mut self, page: u32, buffer: &[u8]) -> Result<(), Refusal>
-        ensures answers_by_the_meaning { answer_of result ≡ write_answer (meaning_over A.PageStore.meaning B.PageStore.meaning self.old) page (length buffer.now) }
-        ensures changes_that_page { meaning_over A.PageStore.meaning B.PageStore.meaning self.new ≡ after_write (meaning_over A.PageStore.meaning B.PageStore.meaning self.old) page buffer.now }
-        ensures changes_the_first_at_even_pages { A.PageStore.meaning self.new.first ≡ first_written (A.PageStore.meaning self.old.first) (B.PageStore.meaning self.old.second) page buffer.now }
-        ensures changes_the_second_at_odd_pages { B.PageStore.meaning self.new.second ≡ second_written (A.PageStore.meaning self.old.first) (B.PageStore.meaning self.old.second) page buffer.now }
-    {
-        reach(self.count_pages(), page, buffer.len())?;
-        if page % 2 == 0 {
-            self.first.write(page / 2, buffer)
-        } else {
-            self.second.write((page - 1) / 2, buffer)
-        }
-    }
-}
-
-impl<A: PageStore, B: PageStore> PageStore for Stripe<A, B> {
-    ghost meaning = { λ s. meaning_over A.PageStore.meaning B.PageStore.meaning s };
-
-    ghost settled = { λ s. A.PageStore.settled s.first && B.PageStore.settled s.second };
-
-    fn count(&self) -> u32 {
-        self.count_pages()
-    }
-
     fn read(&mut self, page: u32, buffer: &mut [u8]) -> Result<(), Refusal>
-        ensures answers_by_the_meaning { answer_of result ≡ read_answer (meaning_over A.PageStore.meaning B.PageStore.meaning self.old) page (length buffer.old) }
-        ensures keeps_the_meaning { meaning_over A.PageStore.meaning B.PageStore.meaning self.new ≡ meaning_over A.PageStore.meaning B.PageStore.meaning self.old }
-        ensures fills_the_buffer { buffer.new ≡ after_read (meaning_over A.PageStore.meaning B.PageStore.meaning self.old) page buffer.old }
-        ensures keeps_the_first { A.PageStore.meaning self.new.first ≡ A.PageStore.meaning self.old.first }
-        ensures keeps_the_second { B.PageStore.meaning self.new.second ≡ B.PageStore.meaning self.old.second }
+        ensures answers_by_the_meaning { answer_of result ≡ read_answer (meaning_over A.meaning B.meaning self.old) page (length buffer.old) }
+        ensures keeps_the_meaning { meaning_over A.meaning B.meaning self.new ≡ meaning_over A.meaning B.meaning self.old }
+        ensures fills_the_buffer { buffer.new ≡ after_read (meaning_over A.meaning B.meaning self.old) page buffer.old }
+        ensures keeps_the_first { A.meaning self.new.first ≡ A.meaning self.old.first }
+        ensures keeps_the_second { B.meaning self.new.second ≡ B.meaning self.old.second }
     {
-        self.read_page(page, buffer)
+        reach(self.count(), page, buffer.len())?;
+        let answer = if page % 2 == 0 {
+            self.first.read(page / 2, buffer)
+        } else {
+            self.second.read(page / 2, buffer)
+        };
+        answer.map_err(|_| Refusal::Lost(page))
     }
 
     fn write(&mut self, page: u32, buffer: &[u8]) -> Result<(), Refusal>
-        ensures answers_by_the_meaning { answer_of result ≡ write_answer (meaning_over A.PageStore.meaning B.PageStore.meaning self.old) page (length buffer.now) }
-        ensures changes_that_page { meaning_over A.PageStore.meaning B.PageStore.meaning self.new ≡ after_write (meaning_over A.PageStore.meaning B.PageStore.meaning self.old) page buffer.now }
-        ensures changes_the_first_at_even_pages { A.PageStore.meaning self.new.first ≡ first_written (A.PageStore.meaning self.old.first) (B.PageStore.meaning self.old.second) page buffer.now }
-        ensures changes_the_second_at_odd_pages { B.PageStore.meaning self.new.second ≡ second_written (A.PageStore.meaning self.old.first) (B.PageStore.meaning self.old.second) page buffer.now }
+        ensures answers_by_the_meaning { answer_of result ≡ write_answer (meaning_over A.meaning B.meaning self.old) page (length buffer.now) }
+        ensures changes_that_page { meaning_over A.meaning B.meaning self.new ≡ after_write (meaning_over A.meaning B.meaning self.old) page buffer.now }
+        ensures changes_the_first_at_even_pages { A.meaning self.new.first ≡ first_written (A.meaning self.old.first) (B.meaning self.old.second) page buffer.now }
+        ensures changes_the_second_at_odd_pages { B.meaning self.new.second ≡ second_written (A.meaning self.old.first) (B.meaning self.old.second) page buffer.now }
     {
-        self.write_page(page, buffer)
+        reach(self.count(), page, buffer.len())?;
+        // Each half by its own branch: the two are of two types.
+        if page % 2 == 0 {
+            self.first.write(page / 2, buffer)
+        } else {
+            self.second.write(page / 2, buffer)
+        }
     }
 
     fn settle(&mut self)
-        ensures keeps_the_meaning { meaning_over A.PageStore.meaning B.PageStore.meaning self.new ≡ meaning_over A.PageStore.meaning B.PageStore.meaning self.old }
-        ensures is_settled { (A.PageStore.settled self.new.first && B.PageStore.settled self.new.second) ≡ true }
-        ensures keeps_the_first { A.PageStore.meaning self.new.first ≡ A.PageStore.meaning self.old.first }
-        ensures keeps_the_second { B.PageStore.meaning self.new.second ≡ B.PageStore.meaning self.old.second }
+        ensures keeps_the_meaning { meaning_over A.meaning B.meaning self.new ≡ meaning_over A.meaning B.meaning self.old }
+        ensures is_settled { (A.settled self.new.first && B.settled self.new.second) ≡ true }
+        ensures keeps_the_first { A.meaning self.new.first ≡ A.meaning self.old.first }
+        ensures keeps_the_second { B.meaning self.new.second ≡ B.meaning self.old.second }
     {
         self.first.settle();
         self.second.settle();

@@ -1,18 +1,10 @@
-use Rattle.std.proofs.Common.{◌&&◌, ap, ◌∙◌}
-use Rattle.cache.specs.Holding.{put_in}
+use Rattle.std.proofs.Common.{◌&&◌, List, ap}
+use Rattle.cache.specs.declared.held.Entry.{Entry}
+use Rattle.cache.specs.Holding.{pages_of, put_in}
 use Rattle.cache.proofs.Holdings.{same_as_itself}
 use Rattle.cache.proofs.Cache.over.Goals as goal
 
-pub returns : goal.returns
-returns g c =
-    let means = g.S.PageStore.meaning in
-    let settles = g.S.PageStore.settled in
-    let below = c.empty.result.below in
-    let lies = c.empty.ensures.lies_over_it in
-    let none = ap (λ hs. put_in hs (means below)) c.empty.ensures.holds_nothing in
-    record {
-      lies_over_it = lies;
-      holds_nothing = c.empty.ensures.holds_nothing;
-      means_what_it_means = none ∙ ap means lies;
-      is_as_settled = ap (λ b. b && settles below) (same_as_itself _ _ none) ∙ ap settles lies;
-    }
+pub returns-clause-is_as_settled : goal.returns-clause-is_as_settled
+returns-clause-is_as_settled g c =
+    let m = g.S.PageStore.meaning c.args.below in
+    ap (λ b. b && g.S.PageStore.settled c.args.below) (same_as_itself _ _ (ap (λ (es : List Entry). put_in (pages_of es) m) c.new.ensures))
