@@ -1,21 +1,26 @@
 //! An example of a maker's own key kind, to copy from: vouchers by branch and number.
 #![tactic(auto)]
 
-ghost use Rattle.std.specs.Prelude.{◌≡◌, ◌≤◌, length};
-ghost use Rattle.branch_kind.specs.Vouchers.{capital, capitals, voucher_zeros};
+ghost use Rattle.std.specs.Prelude.{refl, ◌≡◌, ◌≤◌, length};
+ghost use Rattle.branch_kind.specs.Vouchers.{branch_of, voucher_of, capitals, voucher_zeros};
 ghost use Rattle.branch_kind.specs.BranchKind.{branch_kind};
 
 use keys::{KeyKind, are_zeros};
-use numbers::u32_at;
+use numbers::BigEndian;
 use std::cmp::Ordering;
 
-fn is_capital(b: u8) -> bool
-    ensures tells_capitals { result ≡ capital b }
+/// The four letters of the branch, read as one number.
+fn branch(field: &[u8]) -> u32
+    ensures is_the_branch { result ≡ branch_of field.now }
 {
-    match b {
-        b'A'..=b'Z' => true,
-        _ => false,
-    }
+    u32::read_at(field, 0)
+}
+
+/// The voucher number behind the branch.
+fn number(field: &[u8]) -> u32
+    ensures is_the_number { result ≡ voucher_of field.now }
+{
+    u32::read_at(field, 4)
 }
 
 /// Whether four capital letters stand in front.
@@ -23,10 +28,11 @@ fn is_branch(field: &[u8]) -> bool
     requires reaches_byte_8 { 8 ≤ length field.now }
     ensures tells_branches { result ≡ capitals field.now }
 {
-    is_capital(field[0]) && is_capital(field[1]) && is_capital(field[2]) && is_capital(field[3])
+    field[..4].iter().all(|b| b.is_ascii_uppercase())
 }
 
 /// Whether a branch stands in front, and only zeros from byte 8 on.
+#[tactic(auto, unfolding(crate::specs::Vouchers::voucher_zeros))]
 fn is_voucher(field: &[u8]) -> bool
     requires reaches_byte_8 { 8 ≤ length field.now }
     ensures tells_vouchers { result ≡ voucher_zeros field.now }
@@ -41,23 +47,17 @@ pub struct BranchVoucher;
 impl KeyKind for BranchVoucher {
     const CODE: u8 = 66;
 
+    ghost CODE = { 66 };
+
     ghost kind = { branch_kind };
 
-    fn kind_code() -> u8 {
-        Self::CODE
-    }
-
     fn check(field: &[u8]) -> Option<&[u8]> {
-        if field.len() == 24 && is_voucher(field) {
-            Some(field)
-        } else {
-            None
-        }
+        (field.len() == 24 && is_voucher(field)).then_some(field)
     }
 
     fn compare(a: &[u8], b: &[u8]) -> Ordering {
-        let by_branch = u32_at(a, 0).cmp(&u32_at(b, 0));
-        let by_number = u32_at(a, 4).cmp(&u32_at(b, 4));
-        by_branch.then(by_number)
+        (branch(a), number(a)).cmp(&(branch(b), number(b)))
     }
+
+    ghost is_the_code_of_the_kind = { refl };
 }

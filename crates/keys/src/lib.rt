@@ -1,7 +1,7 @@
 //! Key kinds: which fields of 24 bytes are keys, and how two keys compare.
 #![tactic(auto)]
 
-ghost use Rattle.std.specs.Prelude.{◌≡◌, true, ◌&&◌, if◌then◌else◌, Some, None, Decides};
+ghost use Rattle.std.specs.Prelude.{◌≡◌, ℕ, true, ◌&&◌, if◌then◌else◌, Some, None, Decides};
 ghost use Rattle.refusals.specs.Refusals.{answer_of, Accepted, Refused};
 ghost use Rattle.keys.specs.Kinds.{Field, Kind, below};
 ghost use Rattle.keys.specs.Words.{Word};
@@ -11,20 +11,19 @@ ghost use Rattle.keys.specs.AsSaid.{WordsByFirstDifference, AccountsThenDays};
 ghost use Rattle.keys.specs.Worked.{WorkedComparisons};
 ghost use Rattle.keys.specs.Ranks.{RanksTell};
 
-use laws::{
-    accounts_and_days_are_exact, accounts_and_days_are_held, accounts_go_before_days,
-    comparisons_come_out, ranks_tell_the_order, words_are_exact, words_go_by_the_first_difference,
-};
+use laws::ranks_tell_the_order;
 use refusals::Refusal;
 use std::cmp::Ordering;
 
 mod account_and_day;
 mod bytes;
+mod lawful_key;
 mod laws;
 mod narration_word;
 
 pub use account_and_day::AccountAndDay;
 pub use bytes::are_zeros;
+pub use lawful_key::LawfulKey;
 pub use narration_word::NarrationWord;
 
 /// A kind of key. What it owes stands in `Kind`: its code, its lawful fields, its order and the laws.
@@ -32,13 +31,19 @@ pub trait KeyKind {
     /// The code of the kind, as batches and headers carry it.
     const CODE: u8;
 
+    ghost CODE: { ℕ };
+
     ghost kind: { Kind };
 
-    /// The code, for generic code that has to know which number it is.
+    /// The code, by a call.
     fn kind_code() -> u8
-        ensures is_the_code { result ≡ kind.code };
+        ensures is_the_code { result ≡ kind.code }
+    {
+        Self::CODE
+    }
 
     /// The caller's own bytes where they are a lawful field, else nothing.
+    // Each kind has its own body, a line over its own test.
     fn check(field: &[u8]) -> Option<&[u8]>
         ensures is_the_field_if_lawful { result ≡ (if kind.lawful field.now then Some field.entry else None) };
 
@@ -47,31 +52,26 @@ pub trait KeyKind {
         requires first_is_lawful { kind.lawful a.now ≡ true }
         requires second_is_lawful { kind.lawful b.now ≡ true }
         ensures is_the_order { result ≡ kind.order a.now b.now };
+
+    ghost is_the_code_of_the_kind: { CODE ≡ kind.code };
 }
 
 /// The caller's own bytes where they are a lawful field, else KEY with the place that the caller names.
 pub fn lawful_field<'a, K: KeyKind>(field: &'a [u8], place: u32) -> Result<&'a [u8], Refusal>
-    ensures is_the_field_or_key_refused { answer_of result ≡ (if K.KeyKind.kind.lawful field.now then Accepted field.entry else Refused 4 place) }
+    ensures is_the_field_or_key_refused { answer_of result ≡ (if K.kind.lawful field.now then Accepted field.entry else Refused 4 place) }
 {
-    let Some(part) = K::check(field) else {
-        return Err(Refusal::Key(place));
-    };
-    Ok(part)
+    K::check(field).ok_or(Refusal::Key(place))
 }
 
 /// Whether the first field lies below the second; nothing where one of them is unlawful.
 pub fn is_below<K: KeyKind>(a: &[u8], b: &[u8]) -> Option<bool>
-    ensures is_the_order_of_lawful_fields { result ≡ (if K.KeyKind.kind.lawful a.now && K.KeyKind.kind.lawful b.now then Some (below K.KeyKind.kind a.now b.now) else None) }
-    ensures the_order_is_that_of_ranks { RanksTell K.KeyKind.kind }
+    ensures is_the_order_of_lawful_fields { result ≡ (if K.kind.lawful a.now && K.kind.lawful b.now then Some (below K.kind a.now b.now) else None) }
+    ensures the_order_is_that_of_ranks { RanksTell K.kind }
 {
     ranks_tell_the_order::<K>();
-    let Some(first) = K::check(a) else {
-        return None;
-    };
-    let Some(second) = K::check(b) else {
-        return None;
-    };
-    Some(K::compare(first, second) == Ordering::Less)
+    let first = LawfulKey::<K>::check(a)?;
+    let second = LawfulKey::<K>::check(b)?;
+    Some(first.is_below(&second))
 }
 
 /// Answers yes: the codes are 1 and 2. Its contract says which fields the two kinds call lawful and how they order them.
@@ -84,11 +84,5 @@ pub fn kinds_are_as_said() -> bool
     ensures kind_2_goes_by_account_and_then_by_day { AccountsThenDays }
     ensures worked_comparisons_come_out { WorkedComparisons }
 {
-    words_are_exact();
-    words_go_by_the_first_difference();
-    accounts_and_days_are_exact();
-    accounts_and_days_are_held();
-    accounts_go_before_days();
-    comparisons_come_out();
-    <NarrationWord as KeyKind>::kind_code() == 1 && <AccountAndDay as KeyKind>::kind_code() == 2
+    NarrationWord::CODE == 1 && AccountAndDay::CODE == 2
 }

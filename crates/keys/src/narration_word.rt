@@ -1,14 +1,15 @@
 //! Kind 1: words of a narration.
 
-ghost use Rattle.std.specs.Prelude.{◌≡◌};
+ghost use Rattle.std.specs.Prelude.{refl, ◌≡◌};
 ghost use Rattle.keys.specs.Words.{letters_then_zeros};
 ghost use Rattle.keys.specs.BuiltIn.{word_kind};
 
 use crate::KeyKind;
-use crate::bytes::{are_zeros, compare_bytes, letters};
+use crate::bytes::{are_zeros, letters};
 use std::cmp::Ordering;
 
 /// Whether at least one letter, then only zeros stand there.
+#[tactic(auto, unfolding(crate::specs::Words::letters_then_zeros))]
 fn are_letters_then_zeros(field: &[u8]) -> bool
     ensures tells_both { result ≡ letters_then_zeros field.now }
 {
@@ -23,21 +24,17 @@ pub struct NarrationWord;
 impl KeyKind for NarrationWord {
     const CODE: u8 = 1;
 
+    ghost CODE = { 1 };
+
     ghost kind = { word_kind };
 
-    fn kind_code() -> u8 {
-        Self::CODE
-    }
-
     fn check(field: &[u8]) -> Option<&[u8]> {
-        if field.len() == 24 && are_letters_then_zeros(field) {
-            Some(field)
-        } else {
-            None
-        }
+        (field.len() == 24 && are_letters_then_zeros(field)).then_some(field)
     }
 
     fn compare(a: &[u8], b: &[u8]) -> Ordering {
-        compare_bytes(a, b)
+        a.cmp(&b)
     }
+
+    ghost is_the_code_of_the_kind = { refl };
 }

@@ -4,8 +4,11 @@
 #[cfg(test)]
 mod tests {
     use branch_kind::BranchVoucher;
-    use keys::{AccountAndDay, KeyKind, NarrationWord, is_below, kinds_are_as_said, lawful_field};
+    use keys::{
+        AccountAndDay, KeyKind, LawfulKey, NarrationWord, is_below, kinds_are_as_said, lawful_field,
+    };
     use narration::{Reader, Token, count_tokens, letter};
+    use std::cmp::Ordering;
     use std::test::Fail;
 
     // The bytes, then zeros up to 24.
@@ -17,23 +20,20 @@ mod tests {
         field
     }
 
-    // 0 for a lawful field, else number and place of the refusal as one figure.
-    fn refusal<K: KeyKind>(field: &[u8], place: u32) -> usize {
+    // Number and place of the refusal.
+    fn refusal<K: KeyKind>(field: &[u8], place: u32) -> Result<(), (u8, usize)> {
         match lawful_field::<K>(field, place) {
-            Ok(_) => 0,
-            Err(refusal) => refusal.number() as usize * 100 + refusal.place() % 100,
+            Ok(_) => Ok(()),
+            Err(refusal) => Err((refusal.number(), refusal.place())),
         }
     }
 
     fn lawful<K: KeyKind>(bytes: &[u8]) -> bool {
-        refusal::<K>(&padded(bytes), 0) == 0
+        refusal::<K>(&padded(bytes), 0).is_ok()
     }
 
     fn rises<K: KeyKind>(a: &[u8], b: &[u8]) -> bool {
-        match is_below::<K>(&padded(a), &padded(b)) {
-            Some(below) => below,
-            None => false,
-        }
+        is_below::<K>(&padded(a), &padded(b)) == Some(true)
     }
 
     fn rises_one_way<K: KeyKind>(a: &[u8], b: &[u8]) -> bool {
@@ -63,16 +63,22 @@ mod tests {
     fn other_lengths_are_refused(rt: HostRuntime) {
         assert_eq!(rt;
             refusal::<NarrationWord>(b"abcdefghijklmnopqrstuvw", 7),
-            407
+            Err((4, 7))
         );
-        assert_eq!(rt; refusal::<NarrationWord>(b"abcdefghijklmnopqrstuvwx", 7), 0);
+        assert_eq!(rt;
+            refusal::<NarrationWord>(b"abcdefghijklmnopqrstuvwx", 7),
+            Ok(())
+        );
         assert_eq!(rt;
             refusal::<NarrationWord>(b"abcdefghijklmnopqrstuvwxy", 7),
-            407
+            Err((4, 7))
         );
-        assert_eq!(rt; refusal::<NarrationWord>(b"", 0), 400);
-        assert_eq!(rt; refusal::<AccountAndDay>(b"\0\0\0\x01\0\0\0\0", 1), 401);
-        assert_eq!(rt; refusal::<AccountAndDay>(b"", 1), 401);
+        assert_eq!(rt; refusal::<NarrationWord>(b"", 0), Err((4, 0)));
+        assert_eq!(rt;
+            refusal::<AccountAndDay>(b"\0\0\0\x01\0\0\0\0", 1),
+            Err((4, 1))
+        );
+        assert_eq!(rt; refusal::<AccountAndDay>(b"", 1), Err((4, 1)));
     }
 
     #[test]
@@ -82,6 +88,28 @@ mod tests {
         assert!(rt; rises_one_way::<NarrationWord>(b"9", b"a"));
         assert!(rt; !rises::<NarrationWord>(b"rent", b"rent"));
         assert!(rt; !rises::<NarrationWord>(b"", b"rent"), "no word");
+    }
+
+    fn compared<K: KeyKind>(a: &[u8], b: &[u8]) -> Option<Ordering> {
+        LawfulKey::<K>::check(&padded(a))?.compare_field(&padded(b))
+    }
+
+    #[test]
+    fn lawful_keys_compare(rt: HostRuntime) {
+        assert_eq!(rt;
+            compared::<NarrationWord>(b"rent", b"rents"),
+            Some(Ordering::Less)
+        );
+        assert_eq!(rt;
+            compared::<NarrationWord>(b"rent", b"rent"),
+            Some(Ordering::Equal)
+        );
+        assert_eq!(rt;
+            compared::<NarrationWord>(b"9", b"10"),
+            Some(Ordering::Greater)
+        );
+        assert_eq!(rt; compared::<NarrationWord>(b"rent", b""), None);
+        assert_eq!(rt; compared::<NarrationWord>(b"", b"rent"), None);
     }
 
     #[test]
@@ -139,59 +167,70 @@ mod tests {
         assert!(rt; rises_one_way::<BranchVoucher>(b"LINZ\0\0\0\x07", b"LINZ\0\0\x01\0"));
     }
 
-    fn hands_out(reader: &mut Reader<'_>, word: bool, bytes: &[u8], at: usize) -> bool {
-        match reader.next() {
-            Some(Token::Word { part, place }) => word && part == bytes && place == at,
-            Some(Token::Gap { part, place }) => !word && part == bytes && place == at,
-            None => false,
-        }
+    fn word(part: &[u8], place: usize) -> Token<'_> {
+        Token::Word { part, place }
     }
 
-    fn ends(reader: &mut Reader<'_>) -> bool {
-        match reader.next() {
-            Some(_) => false,
-            None => true,
-        }
+    fn gap(part: &[u8], place: usize) -> Token<'_> {
+        Token::Gap { part, place }
     }
 
     #[test]
     fn words_and_gaps_come_in_turn(rt: HostRuntime) {
         let mut reader = Reader::new(b"Miete 03/26, Linz");
-        assert!(rt; hands_out(&mut reader, true, b"Miete", 0));
-        assert!(rt; hands_out(&mut reader, false, b" ", 5));
-        assert!(rt; hands_out(&mut reader, true, b"03", 6));
-        assert!(rt; hands_out(&mut reader, false, b"/", 8));
-        assert!(rt; hands_out(&mut reader, true, b"26", 9));
-        assert!(rt; hands_out(&mut reader, false, b", ", 11));
-        assert!(rt; hands_out(&mut reader, true, b"Linz", 13));
-        assert!(rt; ends(&mut reader));
-        assert!(rt; ends(&mut reader), "and again");
+        assert_eq!(rt; reader.next(), Some(word(b"Miete", 0)));
+        assert_eq!(rt; reader.next(), Some(gap(b" ", 5)));
+        assert_eq!(rt; reader.next(), Some(word(b"03", 6)));
+        assert_eq!(rt; reader.next(), Some(gap(b"/", 8)));
+        assert_eq!(rt; reader.next(), Some(word(b"26", 9)));
+        assert_eq!(rt; reader.next(), Some(gap(b", ", 11)));
+        assert_eq!(rt; reader.next(), Some(word(b"Linz", 13)));
+        assert_eq!(rt; reader.next(), None);
+        assert_eq!(rt; reader.next(), None, "and again");
+    }
+
+    fn is_word(token: &Token<'_>) -> bool {
+        matches!(token, Token::Word { .. })
+    }
+
+    #[test]
+    fn a_reader_is_an_iterator(rt: HostRuntime) {
+        let mut end = 0usize;
+        for token in Reader::new(b"Miete 03/26, Linz") {
+            if let Token::Word { part, place } = token {
+                end = place.saturating_add(part.len());
+            }
+        }
+        assert_eq!(rt; end, 17);
+        let words = Reader::new(b"Miete 03/26, Linz").filter(|token| is_word(token));
+        assert_eq!(rt; words.count(), 4);
     }
 
     #[test]
     fn short_narrations(rt: HostRuntime) {
         let mut empty = Reader::new(b"");
-        assert!(rt; ends(&mut empty));
+        assert_eq!(rt; empty.next(), None);
         assert_eq!(rt; count_tokens(b""), 0);
-        let mut gap = Reader::new(b" .\0\xff ");
-        assert!(rt; hands_out(&mut gap, false, b" .\0\xff ", 0));
-        assert!(rt; ends(&mut gap));
+        let mut one_gap = Reader::new(b" .\0\xff ");
+        assert_eq!(rt; one_gap.next(), Some(gap(b" .\0\xff ", 0)));
+        assert_eq!(rt; one_gap.next(), None);
         assert_eq!(rt; count_tokens(b" a"), 2);
     }
 
     #[test]
     fn every_byte_alone(rt: HostRuntime) {
-        let mut words = 0usize;
         for b in 0..=255u8 {
             let narration = [b];
             let mut reader = Reader::new(&narration);
-            let word = letter(b) != 0;
-            if word && words < 256 {
-                words += 1;
-            }
-            assert!(rt; hands_out(&mut reader, word, &narration, 0));
-            assert!(rt; ends(&mut reader));
+            let token = if letter(b) != 0 {
+                word(&narration, 0)
+            } else {
+                gap(&narration, 0)
+            };
+            assert_eq!(rt; reader.next(), Some(token));
+            assert_eq!(rt; reader.next(), None);
         }
+        let words = (0..=255u8).filter(|b| letter(*b) != 0).count();
         assert_eq!(rt; words, 62);
     }
 
@@ -199,23 +238,21 @@ mod tests {
     fn long_narrations(rt: HostRuntime) -> Result<(), Fail> {
         let one_word = vec![in rt.alloc(); b'a'; 100_000]?;
         assert_eq!(rt; count_tokens(&one_word), 1);
-        let mut turns = vec![in rt.alloc(); b' '; 0]?;
-        for i in 0..99_999u32 {
-            turns.push(if i % 3 == 0 { b'x' } else { b'-' })?;
-        }
+        let turns: Vec<u8> = (0..99_999u32)
+            .map(|i| if i % 3 == 0 { b'x' } else { b'-' })
+            .collect(rt.alloc())?;
         assert_eq!(rt; count_tokens(&turns), 66_666);
         Ok(())
     }
 
+    // The key of the first token, if it is a lawful field of words.
+    fn first_key(narration: &[u8]) -> Option<[u8; 24]> {
+        let key = Reader::new(narration).next()?.key()?;
+        refusal::<NarrationWord>(&key, 0).is_ok().then_some(key)
+    }
+
     fn key_is(narration: &[u8], key: &[u8]) -> bool {
-        let mut reader = Reader::new(narration);
-        let Some(token) = reader.next() else {
-            return false;
-        };
-        match token.key() {
-            Some(found) => found == padded(key) && refusal::<NarrationWord>(&found, 0) == 0,
-            None => false,
-        }
+        first_key(narration) == Some(padded(key))
     }
 
     #[test]
@@ -229,18 +266,7 @@ mod tests {
             )
         );
         assert!(rt; !key_is(b" rent", b"rent"), "a gap has no key");
-        let forged = Token::Word {
-            part: b"no word",
-            place: 0,
-        };
-        assert!(rt; forged.key().is_none());
-        assert!(rt;
-            Token::Word {
-                part: b"",
-                place: 0,
-            }
-            .key()
-            .is_none()
-        );
+        assert!(rt; word(b"no word", 0).key().is_none());
+        assert!(rt; word(b"", 0).key().is_none());
     }
 }

@@ -1,5 +1,6 @@
 -- The words and gaps that a reader hands out are the whole narration, each longest and in turn.
-use Rattle.std.proofs.Common.{◌≡◌, ℕ, ◌+◌, ◌≤◌, List, [], ◌∷◌, ◌++◌, length, get_or, take, drop, Some, None, sym, refl, ap, ◌∙◌, subst, arith, take-append-drop}
+use Rattle.std.proofs.Common.{◌≡◌, ℕ, ◌+◌, ◌≤◌, List, [], ◌∷◌, ◌++◌, length, get_or, take, drop, None, sym, ap, ◌∙◌, subst, arith, take-append-drop}
+use Rattle.std.specs.Iterator.{Drains}
 use Rattle.std.specs.List.{AllByRecursion}
 use Rattle.std.proofs.lemmas.List.{drop-drop, drop_all}
 use Rattle.narration.specs.declared.Token.{Token}
@@ -52,15 +53,7 @@ module _ (table : List ℕ) where
     are_at_most_its_bytes = omega (arith, rest_count s xs h);
   }
 
-  -- the tokens handed out between two readers
-  abbrev pub HandedTo : Reader → List Token → Reader → Type 0
-  HandedTo s [] t = t ≡ s
-  HandedTo s (x ∷ xs) t = (u : Reader) × Reads table s (Some x) u × HandedTo u xs t
-
-  pub handed_more : (s t u : Reader) (xs : List Token) (x : Token) → HandedTo s xs t → Reads table t (Some x) u → HandedTo s (xs ++ x ∷ []) u
-  handed_more s t u [] x same reads = (u, subst (λ r. Reads table r (Some x) u) same reads, refl)
-  handed_more s t u (y ∷ ys) x (v, first, rest) reads = (v, first, handed_more v t u ys x rest reads)
-
-  pub handed_all : (s t u : Reader) (xs : List Token) → HandedTo s xs t → Reads table t None u → Handed table s xs
-  handed_all s t u [] same reads = (u, subst (λ r. Reads table r None u) same reads)
-  handed_all s t u (y ∷ ys) (v, first, rest) reads = (v, first, handed_all v t u ys rest reads)
+  -- what a run of calls of `next` up to None gave
+  pub handed_from_drains : (s : Reader) (xs : List Token) → Drains (Reads table) s xs → Handed table s xs
+  handed_from_drains s [] (u, (t, same, end)) = (u, subst (λ r. Reads table r None u) (sym same) end)
+  handed_from_drains s (x ∷ xs) (u, (t, (v, first, more), end)) = (v, first, handed_from_drains v xs (u, (t, more, end)))

@@ -11,6 +11,10 @@ use Rattle.narration.specs.Turns.{Turn}
 abbrev pub text : Reader → List ℕ
 text reader = reader.narration.now
 
+-- how many bytes lie behind a reader's place
+abbrev pub bytes_left : Reader → ℕ
+bytes_left reader = length (text reader) - reader.place
+
 abbrev pub part_of : Token → List ℕ
 part_of (Word part place) = part.now
 part_of (Gap part place) = part.now

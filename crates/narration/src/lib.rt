@@ -2,10 +2,11 @@
 #![tactic(auto)]
 
 ghost use Rattle.std.specs.Prelude.{◌≡◌, true, List, length, Some, None};
+ghost use Rattle.std.specs.Iterator.{at_most};
 ghost use Rattle.keys.specs.BuiltIn.{word_kind};
 ghost use Rattle.narration.specs.Letters.{fixed_table};
 ghost use Rattle.narration.specs.declared.Token.{Token};
-ghost use Rattle.narration.specs.Tokens.{part_of, key_of_token, WordsHaveKeys, Reads, WholeRun, EveryRunIsWhole};
+ghost use Rattle.narration.specs.Tokens.{part_of, key_of_token, bytes_left, WordsHaveKeys, Reads, WholeRun, EveryRunIsWhole};
 
 mod reader;
 mod runs;
@@ -13,12 +14,12 @@ mod table;
 mod words;
 
 pub use reader::Reader;
-use runs::{read_through, token_at};
+use runs::token_at;
 pub use table::letter;
 use words::{word_key, words_have_keys};
 
 /// A word or a gap, with the part of the narration that it covers and the place where that begins.
-#[derive(Clone, Copy)]
+#[derive(Clone, Copy, PartialEq, Eq, Debug)]
 pub enum Token<'a> {
     Word { part: &'a [u8], place: usize },
     Gap { part: &'a [u8], place: usize },
@@ -60,14 +61,20 @@ impl<'a> Reader<'a> {
             place: 0,
         }
     }
+}
+
+/// Hands out the words and gaps in turn.
+impl<'a> Iterator for Reader<'a> {
+    type Item = Token<'a>;
+
+    // What `next` ensures: the longest run at the reader's place.
+    ghost next_gives = { Reads fixed_table };
+
+    ghost remaining = { λ reader. at_most (bytes_left reader) };
 
     /// The word or gap at the reader's place, which moves behind it; nothing exactly at the end.
-    pub fn next(&mut self) -> Option<Token<'a>>
-        ensures is_the_longest_run_there { Reads fixed_table self.old result self.new }
-    {
-        let Some(token) = token_at(self.narration, self.place) else {
-            return None;
-        };
+    fn next(&mut self) -> Option<Token<'a>> {
+        let token = token_at(self.narration, self.place)?;
         self.place += token.part().len();
         Some(token)
     }
@@ -78,5 +85,5 @@ pub fn count_tokens(narration: &[u8]) -> usize
     ensures there_is_a_whole_run { (tokens : List Token) × WholeRun fixed_table narration.now tokens × (result ≡ length tokens) }
     ensures every_run_is_whole { EveryRunIsWhole fixed_table }
 {
-    read_through(narration)
+    Reader::new(narration).count()
 }

@@ -3,13 +3,13 @@
 ghost use Rattle.std.specs.Prelude.{◌≡◌, ℕ, ◌<◌, ◌≤◌, not, List, length, slice_index};
 ghost use Rattle.narration.specs.Letters.{in_word, fixed_table};
 ghost use Rattle.narration.specs.Turns.{Turn};
-ghost use Rattle.narration.specs.Tokens.{TokenAt, WholeRun, EveryRunIsWhole};
-ghost use Rattle.narration.specs.declared.Token.{Token};
+ghost use Rattle.narration.specs.Tokens.{TokenAt};
 
+use crate::Token;
 use crate::table::in_word;
-use crate::{Reader, Token};
 
 /// The place after the longest run, from a place on, of bytes of one sort.
+// One function for both sorts: `word` says of which sort the run is, and picks no step.
 fn run_end(bytes: &[u8], from: usize, word: bool) -> usize
     requires is_within { from ≤ length bytes.now }
     ensures is_after { from ≤ result }
@@ -17,11 +17,10 @@ fn run_end(bytes: &[u8], from: usize, word: bool) -> usize
     ensures all_of_its_sort { (k : ℕ) → from ≤ k → k < result → in_word fixed_table (slice_index bytes.now k) ≡ word }
     ensures then_the_other { result < length bytes.now → in_word fixed_table (slice_index bytes.now result) ≡ not word }
 {
-    let mut end = from;
-    while end < bytes.len() && in_word(bytes[end]) == word {
-        end += 1;
-    }
-    end
+    let run = bytes[from..]
+        .iter()
+        .take_while(|byte| in_word(**byte) == word);
+    from + run.count()
 }
 
 /// The word or gap that begins at a place.
@@ -30,27 +29,13 @@ pub(crate) fn token_at<'a>(narration: &'a [u8], place: usize) -> Option<Token<'a
     requires is_at_a_turn { Turn fixed_table narration.now place }
     ensures is_the_longest_run_there { TokenAt fixed_table narration.now place result }
 {
-    if place == narration.len() {
-        return None;
-    }
-    let word = in_word(narration[place]);
+    let first = narration.get(place)?;
+    let word = in_word(*first);
     let end = run_end(narration, place, word);
     let part = &narration[place..end];
-    if word {
-        return Some(Token::Word { part, place });
-    }
-    Some(Token::Gap { part, place })
-}
-
-/// Reads a narration from its start to its end and counts what is handed out.
-pub(crate) fn read_through(narration: &[u8]) -> usize
-    ensures there_is_a_whole_run { (tokens : List Token) × WholeRun fixed_table narration.now tokens × (result ≡ length tokens) }
-    ensures every_run_is_whole { EveryRunIsWhole fixed_table }
-{
-    let mut reader = Reader::new(narration);
-    let mut count = 0;
-    while let Some(_token) = reader.next() {
-        count += 1;
-    }
-    count
+    Some(if word {
+        Token::Word { part, place }
+    } else {
+        Token::Gap { part, place }
+    })
 }

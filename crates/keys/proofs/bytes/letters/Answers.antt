@@ -1,18 +1,16 @@
-use Rattle.std.proofs.Common.{sym, arith}
-use Rattle.keys.proofs.Walks.{front_go_on, front_stop, front_end}
+use Rattle.std.proofs.Common.{not, length, sym, ap, ◌∙◌, arith, rules, tests}
+use Rattle.std.specs.Option.{unwrap_or}
+use Rattle.std.specs.List.{position_or_len}
+use Rattle.std.proofs.lemmas.Iterator.{YieldsList-from_slice}
+use Rattle.std.proofs.lemmas.Iterator.Search.{position_from_yields_List}
+use Rattle.keys.specs.Words.{letter}
+use Rattle.keys.specs.WordLaws.{front_within}
+use Rattle.keys.proofs.Walks.{front_is_position, place_or_end}
 use Rattle.keys.proofs.bytes.letters.Goals as goal
 
-pub returns-then-not-is_letter : goal.returns-then-not-is_letter
-returns-then-not-is_letter c =
-    let stop = front_stop c.args.bytes.now c.loop-i.i c.loop-i-test.true (sym c.if-not-is_letter.ensures.tells_letters) in
-    record { are_counted = omega (arith, c.loop-i.invariant); are_within = omega arith }
-
-pub loop-i-preserved : goal.loop-i-preserved
-loop-i-preserved c =
-    let more = front_go_on c.args.bytes.now c.loop-i.i c.loop-i-test.true (sym c.if-not-is_letter.ensures.tells_letters) in
-    omega (arith, c.loop-i.invariant)
-
-pub returns : goal.returns
-returns c =
-    let end = front_end c.args.bytes.now c.loop-i.i c.loop-i-test.false in
-    record { are_counted = omega (arith, c.loop-i.invariant); are_within = omega arith }
+pub returns-clause-are_counted : goal.returns-clause-are_counted
+returns-clause-are_counted c =
+    let xs = c.args.bytes.now in
+    let found = position_from_yields_List (λ b. not (letter b)) _ _ c.position.result c.position.ensures.ran (YieldsList-from_slice xs cc) (λ x b q k. search (rules, tests)) in
+    let told = front_is_position xs in
+    c.unwrap_or.ensures ∙ ap (λ o. unwrap_or o (length xs)) found ∙ place_or_end (position_or_len (λ b. not (letter b)) xs) (length xs) (omega (arith, front_within xs)) ∙ sym told

@@ -1,14 +1,12 @@
-use Rattle.std.proofs.Common.{sym, ◌∙◌}
-use Rattle.narration.specs.Letters.{fixed_table}
-use Rattle.narration.proofs.WordKeys.{words_go_on, words_stop, words_end}
+use Rattle.std.proofs.Common.{◌&&◌, refl, ◌∙◌, rules, tests}
+use Rattle.std.specs.List.{list_all}
+use Rattle.std.proofs.lemmas.Iterator.{YieldsList-from_slice}
+use Rattle.std.proofs.lemmas.Iterator.Search.{all_from_yields_List}
+use Rattle.std.proofs.lemmas.List.Recursion.{same_from_clauses}
+use Rattle.narration.specs.Letters.{in_word, all_in_word, fixed_table}
 use Rattle.narration.proofs.words.are_in_word.Goals as goal
 
-pub returns-then-not-in_word : goal.returns-then-not-in_word
-returns-then-not-in_word c =
-    record { tells_words = sym (c.loop-b.invariant ∙ words_stop fixed_table c.args.bytes.now c.loop-b.b-index c.loop-b-test.true (sym c.if-not-in_word.ensures.tells_letters)) }
-
-pub loop-b-preserved : goal.loop-b-preserved
-loop-b-preserved c = c.loop-b.invariant ∙ words_go_on fixed_table c.args.bytes.now c.loop-b.b-index c.loop-b-test.true (sym c.if-not-in_word.ensures.tells_letters)
-
 pub returns : goal.returns
-returns c = record { tells_words = sym (c.loop-b.invariant ∙ words_end fixed_table c.args.bytes.now c.loop-b.b-index c.loop-b-test.false) }
+returns c =
+    let xs = c.args.bytes.now in
+    record { tells_words = all_from_yields_List (in_word fixed_table) _ _ c.all.result c.all.ensures.ran (YieldsList-from_slice xs cc) (λ x b q k. search (rules, tests)) ∙ same_from_clauses (list_all (in_word fixed_table)) (all_in_word fixed_table) (λ b t. in_word fixed_table b && t) refl (λ _ _. refl) (λ _ _. refl) xs }
