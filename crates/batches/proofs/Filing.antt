@@ -9,7 +9,8 @@ use Rattle.batches.specs.declared.line.Sign.{Sign}
 use Rattle.batches.specs.declared.line.Sign.TheVariants.{Posting, Cancelling}
 use Rattle.batches.specs.declared.line.Line.{Line}
 use Rattle.batches.specs.Layout.{Row, sign_byte, lines_of, line_bytes, row_bytes, rows_bytes, head_bytes, file_of, Rising, RowFits, FileFits}
-use Rattle.batches.specs.Reading.{row_count, line_count, pieces, Content, content_of, contents_in, Cell, cell_of, cells_in, line_of, rows_of, rows_in}
+use Rattle.std.specs.Simd.{first_chunks}
+use Rattle.batches.specs.Reading.{row_count, line_count, Content, content_of, contents_in, Cell, cell_of, cells_in, line_of, rows_of, rows_in}
 use Rattle.batches.specs.Opening.{has_letters, counts_fit, length_fits, follow, has_sign, row_answer, lines_answer, open_answer}
 use Rattle.batches.proofs.Steps.{comes_to_the_lines}
 
@@ -42,7 +43,7 @@ content_row first row fits small few =
 lines_more : (row : Row) (rows : List Row) → length (lines_of (row ∷ rows)) ≡ length row.lines + length (lines_of rows)
 lines_more row rows = length-append row.lines (lines_of rows)
 
-contents_of_pieces : (first : ℕ) (rows : List Row) (rest : List ℕ) → AllByRecursion RowFits rows → first + length (lines_of rows) < 2 ^ 32 → map content_of (pieces 32 (length rows) (rows_bytes first rows ++ rest)) ≡ contents_of first rows
+contents_of_pieces : (first : ℕ) (rows : List Row) (rest : List ℕ) → AllByRecursion RowFits rows → first + length (lines_of rows) < 2 ^ 32 → map content_of (first_chunks 32 (length rows) (rows_bytes first rows ++ rest)) ≡ contents_of first rows
 contents_of_pieces first [] rest fits small = refl
 contents_of_pieces first (row ∷ rows) rest fits small =
     let l = length_row first row fits.0 in
@@ -86,7 +87,7 @@ pub small_lines : (rows : List Row) → AllByRecursion RowFits rows → Small (l
 small_lines [] fits = tt
 small_lines (row ∷ rows) fits = small_both row.lines (lines_of rows) (small_rising 0 row.lines fits.0.numbers_rise_from_1) (small_lines rows fits.1)
 
-cells_of : (lines : List Line) → Small lines → map cell_of (pieces 9 (length lines) (joined line_bytes lines)) ≡ map cell_from lines
+cells_of : (lines : List Line) → Small lines → map cell_of (first_chunks 9 (length lines) (joined line_bytes lines)) ≡ map cell_from lines
 cells_of [] h = refl
 cells_of (line ∷ lines) h =
     let l = length_line line in

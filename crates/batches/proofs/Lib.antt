@@ -1,5 +1,4 @@
 pub mod Pieces
-pub mod Contents
 pub mod Cells
 pub mod Steps
 pub mod Filing
@@ -7,5 +6,5 @@ pub mod Opened
 pub mod Refiling
 pub mod Layouts
 pub mod Rowwise
-pub mod Keyed
+pub mod Walked
 pub mod Reversals

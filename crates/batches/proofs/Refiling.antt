@@ -10,14 +10,15 @@ use Rattle.refusals.specs.Refusals.{Accepted}
 use Rattle.batches.specs.declared.line.Sign.TheVariants.{Posting, Cancelling}
 use Rattle.batches.specs.declared.line.Line.{Line}
 use Rattle.batches.specs.Layout.{sign_byte, lines_of, line_bytes, row_bytes, rows_bytes, head_bytes, file_of, Rising, RowFits, FileFits, HasLayout}
-use Rattle.batches.specs.Reading.{kind_code, row_count, line_count, pieces, content_of, contents_in, Cell, cell_of, cells_in, line_of, rows_of, rows_in}
+use Rattle.std.specs.Simd.{first_chunks}
+use Rattle.batches.specs.Reading.{kind_code, row_count, line_count, content_of, contents_in, Cell, cell_of, cells_in, line_of, rows_of, rows_in}
 use Rattle.batches.specs.Opening.{follow, has_sign, row_answer, lines_answer, open_answer}
 use Rattle.batches.proofs.Opened.{above_of_good, below_of_good, Signed, good_first, good_rest, first_row, other_rows, signed, enough, left, letters, counts, follows, lines_good, rows_length, row_count_is_told, lines_are, line_count_is_told}
 use Rattle.batches.proofs.Steps.{follow_parts, few_rows, few_lines}
 use Rattle.numbers.proofs.Reading.{cells, part_cells}
 
 -- pieces put together again
-pub joined_pieces : (width count : ℕ) (bytes : List ℕ) → flat_map (λ (piece : List ℕ). piece) (pieces width count bytes) ≡ take (width * count) bytes
+pub joined_pieces : (width count : ℕ) (bytes : List ℕ) → flat_map (λ (piece : List ℕ). piece) (first_chunks width count bytes) ≡ take (width * count) bytes
 joined_pieces width zero bytes = rw mul-zero
 joined_pieces width (suc count) bytes =
     let e : width * suc count ≡ width + width * count = omega (arith, mul-suc width count) in
@@ -38,7 +39,7 @@ bytes_rest zero xs h = h
 bytes_rest (suc n) [] h = tt
 bytes_rest (suc n) (x ∷ xs) h = bytes_rest n xs h.1
 
-each_piece : (width count : ℕ) (bytes : List ℕ) → width * count ≤ length bytes → Bytes bytes → AllByRecursion (Piece width) (pieces width count bytes)
+each_piece : (width count : ℕ) (bytes : List ℕ) → width * count ≤ length bytes → Bytes bytes → AllByRecursion (Piece width) (first_chunks width count bytes)
 each_piece width zero bytes e h = tt
 each_piece width (suc count) bytes e h = (
   record { long = length-take-le width bytes (omega (arith, mul-suc width count)); bytes = bytes_front width bytes h },
@@ -134,10 +135,10 @@ module _ (bytes : List ℕ) (real : Bytes bytes) (opened : open_answer bytes ≡
       let h : get_or bytes 7 0 ≡ 0 = grind (arith, nat_tests) in
       part_cells bytes 0 0 8 (omega (arith, (rows_length bytes opened))) ∙ rw (a, b, d, e, f, g, h)
 
-  rows_read : AllByRecursion (Piece 32) (pieces 32 (row_count bytes) (drop 16 bytes))
+  rows_read : AllByRecursion (Piece 32) (first_chunks 32 (row_count bytes) (drop 16 bytes))
   rows_read = each_piece 32 (row_count bytes) (drop 16 bytes) (omega (arith, (rows_length bytes opened), length-drop 16 bytes)) (bytes_rest 16 bytes real)
 
-  lines_read : AllByRecursion (Piece 9) (pieces 9 (line_count bytes) (drop (16 + 32 * row_count bytes) bytes))
+  lines_read : AllByRecursion (Piece 9) (first_chunks 9 (line_count bytes) (drop (16 + 32 * row_count bytes) bytes))
   lines_read = each_piece 9 (line_count bytes) (drop (16 + 32 * row_count bytes) bytes) (omega (arith, (rows_length bytes opened), length-drop (16 + 32 * row_count bytes) bytes)) (bytes_rest (16 + 32 * row_count bytes) bytes real)
 
   head_bytes_are_back : head_bytes (kind_code bytes) (length (rows_in bytes)) (length (lines_of (rows_in bytes))) ≡ take 16 bytes
@@ -154,14 +155,14 @@ module _ (bytes : List ℕ) (real : Bytes bytes) (opened : open_answer bytes ≡
   rows_are : rows_bytes 0 (rows_in bytes) ≡ take (32 * row_count bytes) (drop 16 bytes)
   unfolding rows_in contents_in
   rows_are =
-      rows_bytes_of_pieces 0 (line_count bytes) (pieces 32 (row_count bytes) (drop 16 bytes)) (cells_in bytes) rows_read (follows bytes opened) (omega (arith, length_cells bytes))
+      rows_bytes_of_pieces 0 (line_count bytes) (first_chunks 32 (row_count bytes) (drop 16 bytes)) (cells_in bytes) rows_read (follows bytes opened) (omega (arith, length_cells bytes))
       ∙ joined_pieces 32 (row_count bytes) (drop 16 bytes)
 
   lines_bytes_are : flat_map line_bytes (lines_of (rows_in bytes)) ≡ take (9 * line_count bytes) (drop (16 + 32 * row_count bytes) bytes)
   unfolding cells_in
   lines_bytes_are =
       ap (flat_map line_bytes) (lines_are bytes opened)
-      ∙ lines_bytes (pieces 9 (line_count bytes) (drop (16 + 32 * row_count bytes) bytes)) lines_read (signed bytes opened)
+      ∙ lines_bytes (first_chunks 9 (line_count bytes) (drop (16 + 32 * row_count bytes) bytes)) lines_read (signed bytes opened)
       ∙ joined_pieces 9 (line_count bytes) (drop (16 + 32 * row_count bytes) bytes)
 
   pub is_its_file : bytes ≡ file_of (kind_code bytes) (rows_in bytes)
@@ -182,7 +183,7 @@ module _ (bytes : List ℕ) (real : Bytes bytes) (opened : open_answer bytes ≡
         code_is_a_byte = byte_at bytes 4 real (omega (arith, (rows_length bytes opened)));
         at_most_1024_rows = omega (arith, (row_count_is_told bytes opened), few_rows bytes (counts bytes opened));
         at_most_1024_lines = omega (arith, (line_count_is_told bytes opened), few_lines bytes (counts bytes opened));
-        each_row_fits = rows_fit 0 0 (line_count bytes) (pieces 32 (row_count bytes) (drop 16 bytes)) (cells_in bytes) rows_read (follows bytes opened) (omega (arith, length_cells bytes)) (lines_good bytes opened);
+        each_row_fits = rows_fit 0 0 (line_count bytes) (first_chunks 32 (row_count bytes) (drop 16 bytes)) (cells_in bytes) rows_read (follows bytes opened) (omega (arith, length_cells bytes)) (lines_good bytes opened);
       }
 
   pub has_layout : HasLayout bytes

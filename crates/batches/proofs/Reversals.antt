@@ -1,5 +1,5 @@
 -- The reversal of a file is the file of the reversed rows. Assumes nothing.
-use Rattle.std.proofs.Common.{◌≡◌, ℕ, zero, suc, ◌+◌, ◌-◌, ◌*◌, ◌<◌, ◌≤◌, List, [], ◌∷◌, ◌++◌, map, length, get_or, take, drop, set, sym, refl, ap, ◌∙◌, mul-suc, arith, length-append}
+use Rattle.std.proofs.Common.{◌≡◌, ℕ, zero, suc, ◌+◌, ◌*◌, ◌≤◌, List, [], ◌∷◌, ◌++◌, map, length, take, drop, set, sym, refl, ap, ◌∙◌, mul-suc, arith, length-append}
 use Rattle.std.proofs.lemmas.List.{take_at, drop_at, drop-drop, set_at, get_or_at, append_assoc, append-nil, map-append, length-map, length-take-le, length-drop, take-append-drop, drop_all}
 use Rattle.std.specs.List.{flat_map, AllByRecursion}
 use Rattle.numbers.specs.BigEndian.{bytes_of}
@@ -8,22 +8,14 @@ use Rattle.batches.specs.declared.line.Sign.{Sign}
 use Rattle.batches.specs.declared.line.Sign.TheVariants.{Posting, Cancelling}
 use Rattle.batches.specs.declared.line.Line.{Line}
 use Rattle.batches.specs.Layout.{Row, sign_byte, lines_of, line_bytes, rows_bytes, head_bytes, file_of, Rising, RowFits, FileFits, HasLayout}
-use Rattle.batches.specs.Reading.{kind_code, row_count, line_count, pieces, rows_in}
+use Rattle.std.specs.Simd.{first_chunks}
+use Rattle.batches.specs.Reading.{kind_code, row_count, line_count, rows_in}
 use Rattle.batches.specs.Opening.{opens}
 use Rattle.batches.specs.Reversal.{other_byte, turned, turned_from, reversal, other_sign, reversed_line, reversed_row, Reverses}
 use Rattle.batches.proofs.Filing.{count_rows, count_lines, length_head, length_rows, after_rows, length_line, rows_of_file, file_opens}
 
--- one turn of the loop
-pub turned_step : (at count j byte : ℕ) (bytes : List ℕ) → j < count → byte ≡ other_byte (get_or bytes (at + 9 * j) 0) → turned_from (at + 9 * j) (count - j) bytes ≡ turned_from (at + 9 * (j + 1)) (count - (j + 1)) (set bytes (at + 9 * j) byte)
-turned_step at count j byte bytes h is =
-    let one : count - j ≡ suc (count - (j + 1)) = omega arith in
-    let on : at + 9 * j + 9 ≡ at + 9 * (j + 1) = omega arith in
-    ap (λ (n : ℕ). turned_from (at + 9 * j) n bytes) one
-    ∙ ap (λ (m : ℕ). turned_from m (count - (j + 1)) (set bytes (at + 9 * j) (other_byte (get_or bytes (at + 9 * j) 0)))) on
-    ∙ ap (λ (b : ℕ). turned_from (at + 9 * (j + 1)) (count - (j + 1)) (set bytes (at + 9 * j) b)) (sym is)
-
 -- places exchanged one after another are the pieces turned
-turned_pieces : (count : ℕ) (a b : List ℕ) (at : ℕ) → length a ≡ at → 9 * count ≤ length b → turned_from at count (a ++ b) ≡ a ++ (flat_map turned (pieces 9 count b) ++ drop (9 * count) b)
+turned_pieces : (count : ℕ) (a b : List ℕ) (at : ℕ) → length a ≡ at → 9 * count ≤ length b → turned_from at count (a ++ b) ≡ a ++ (flat_map turned (first_chunks 9 count b) ++ drop (9 * count) b)
 turned_pieces zero a b at e h = refl
 turned_pieces (suc count) a [] at e h = absurd (omega (arith, mul-suc 9 count))
 turned_pieces (suc count) a (s ∷ b) at e h =
@@ -38,9 +30,9 @@ turned_pieces (suc count) a (s ∷ b) at e h =
     ap (λ (x : ℕ). turned_from (at + 9) count (set (a ++ (s ∷ b)) at (other_byte x))) (get_or_at a s b 0 at e)
     ∙ ap (turned_from (at + 9) count) (set_at a s b t at e ∙ whole)
     ∙ ih
-    ∙ append_assoc a piece (flat_map turned (pieces 9 count rest) ++ drop (9 * count) rest)
-    ∙ ap (λ (xs : List ℕ). a ++ xs) (sym (append_assoc piece (flat_map turned (pieces 9 count rest)) (drop (9 * count) rest)))
-    ∙ ap (λ (xs : List ℕ). a ++ ((piece ++ flat_map turned (pieces 9 count rest)) ++ xs)) end
+    ∙ append_assoc a piece (flat_map turned (first_chunks 9 count rest) ++ drop (9 * count) rest)
+    ∙ ap (λ (xs : List ℕ). a ++ xs) (sym (append_assoc piece (flat_map turned (first_chunks 9 count rest)) (drop (9 * count) rest)))
+    ∙ ap (λ (xs : List ℕ). a ++ ((piece ++ flat_map turned (first_chunks 9 count rest)) ++ xs)) end
 
 pub turned_is_reversal : (bytes : List ℕ) → 16 + 32 * row_count bytes + 9 * line_count bytes ≡ length bytes → turned_from (16 + 32 * row_count bytes) (line_count bytes) bytes ≡ reversal bytes
 unfolding reversal
@@ -51,10 +43,10 @@ turned_is_reversal bytes e =
     let none : drop (9 * line_count bytes) rest ≡ [] = drop_all (9 * line_count bytes) rest (omega (arith, length-drop from bytes)) in
     ap (turned_from from (line_count bytes)) (sym (take-append-drop from bytes))
     ∙ turned_pieces (line_count bytes) front rest from (length-take-le from bytes (omega arith)) (omega (arith, length-drop from bytes))
-    ∙ ap (λ (xs : List ℕ). front ++ (flat_map turned (pieces 9 (line_count bytes) rest) ++ xs)) none
-    ∙ ap (λ (xs : List ℕ). front ++ xs) (append-nil (flat_map turned (pieces 9 (line_count bytes) rest)))
+    ∙ ap (λ (xs : List ℕ). front ++ (flat_map turned (first_chunks 9 (line_count bytes) rest) ++ xs)) none
+    ∙ ap (λ (xs : List ℕ). front ++ xs) (append-nil (flat_map turned (first_chunks 9 (line_count bytes) rest)))
 
-reversal_is : (bytes : List ℕ) (rows lines : ℕ) → row_count bytes ≡ rows → line_count bytes ≡ lines → reversal bytes ≡ take (16 + 32 * rows) bytes ++ flat_map turned (pieces 9 lines (drop (16 + 32 * rows) bytes))
+reversal_is : (bytes : List ℕ) (rows lines : ℕ) → row_count bytes ≡ rows → line_count bytes ≡ lines → reversal bytes ≡ take (16 + 32 * rows) bytes ++ flat_map turned (first_chunks 9 lines (drop (16 + 32 * rows) bytes))
 unfolding reversal
 reversal_is bytes rows lines e f = rw (e, f)
 
@@ -63,10 +55,10 @@ line_turned : (sign : Sign) (number : List ℕ) → turned (sign_byte sign ∷ n
 line_turned Posting number = refl
 line_turned Cancelling number = refl
 
-piece_turned : (count : ℕ) (piece rest : List ℕ) → length piece ≡ 9 → flat_map turned (pieces 9 (suc count) (piece ++ rest)) ≡ turned piece ++ flat_map turned (pieces 9 count rest)
+piece_turned : (count : ℕ) (piece rest : List ℕ) → length piece ≡ 9 → flat_map turned (first_chunks 9 (suc count) (piece ++ rest)) ≡ turned piece ++ flat_map turned (first_chunks 9 count rest)
 piece_turned count piece rest l = rw (take_at piece rest 9 l, drop_at piece rest 9 l)
 
-lines_turned : (lines : List Line) → flat_map turned (pieces 9 (length lines) (flat_map line_bytes lines)) ≡ flat_map line_bytes (map reversed_line lines)
+lines_turned : (lines : List Line) → flat_map turned (first_chunks 9 (length lines) (flat_map line_bytes lines)) ≡ flat_map line_bytes (map reversed_line lines)
 lines_turned [] = refl
 lines_turned (line ∷ lines) =
     piece_turned (length lines) (line_bytes line) (flat_map line_bytes lines) (length_line line)
@@ -135,8 +127,8 @@ module _ (code : ℕ) (rows : List Row) (fits : FileFits code rows) where
       let back = map reversed_row rows in
       let count : length back ≡ length rows = length-map rows reversed_row in
       reversal_is (file_of code rows) (length rows) (length lines) (count_rows code rows fits) (count_lines code rows fits)
-      ∙ ap (λ (xs : List ℕ). xs ++ flat_map turned (pieces 9 (length lines) (drop (16 + 32 * length rows) (file_of code rows)))) front_is
-      ∙ ap (λ (xs : List ℕ). (head_bytes code (length rows) (length lines) ++ rows_bytes 0 rows) ++ flat_map turned (pieces 9 (length lines) xs)) (after_rows code rows fits)
+      ∙ ap (λ (xs : List ℕ). xs ++ flat_map turned (first_chunks 9 (length lines) (drop (16 + 32 * length rows) (file_of code rows)))) front_is
+      ∙ ap (λ (xs : List ℕ). (head_bytes code (length rows) (length lines) ++ rows_bytes 0 rows) ++ flat_map turned (first_chunks 9 (length lines) xs)) (after_rows code rows fits)
       ∙ ap (λ (xs : List ℕ). (head_bytes code (length rows) (length lines) ++ rows_bytes 0 rows) ++ xs) (lines_turned lines ∙ ap (flat_map line_bytes) (sym (lines_of_reversed rows)))
       ∙ append_assoc (head_bytes code (length rows) (length lines)) (rows_bytes 0 rows) (flat_map line_bytes (lines_of back))
       ∙ ap (λ (xs : List ℕ). head_bytes code (length rows) (length lines) ++ (xs ++ flat_map line_bytes (lines_of back))) (sym (rows_of_reversed 0 rows))

@@ -1,19 +1,21 @@
--- Rows and lines of an open batch, by number. Assumes nothing.
+-- Rows and lines of an open batch as they stand and by number. Assumes nothing.
 use Rattle.std.proofs.Common.{◌≡◌, ℕ, zero, suc, ◌+◌, ◌*◌, ◌<◌, ◌≤◌, true, List, [], ◌∷◌, map, length, get_or, take, drop, Some, None, sym, refl, ap, ◌∙◌, arith, length-append}
-use Rattle.std.specs.List.{slice_get}
-use Rattle.std.proofs.lemmas.Option.{slice_get-get_or, slice_get_past}
+use Rattle.std.specs.List.{slice_get, AllPass}
+use Rattle.std.specs.Option.{option_map}
+use Rattle.std.proofs.lemmas.Option.{slice_get-map, slice_get_past, slice_get_read}
 use Rattle.std.proofs.lemmas.List.{length-map, get_or-map, length-take-le}
 use Rattle.refusals.specs.Refusals.{Accepted}
 use Rattle.refusals.proofs.Answering.{accepted_from_test}
-use Rattle.numbers.specs.BigEndian.{part, number_at}
+use Rattle.numbers.specs.BigEndian.{number_at}
 use Rattle.batches.specs.declared.line.Line.{Line}
 use Rattle.batches.specs.Layout.{lines_of}
 use Rattle.batches.specs.Reading.{row_count, line_count, Content, content_of, contents_in, Cell, cell_of, cells_in, line_of, rows_of, rows_in}
-use Rattle.batches.specs.Opening.{follow, has_sign, open_answer, opens}
+use Rattle.batches.specs.Opening.{length_fits, follow, has_sign, open_answer, opens}
+use Rattle.batches.specs.Walking.{RowsLeft, rows_left, RowsGoOn}
 use Rattle.batches.specs.Rows.{lines_before, no_row}
-use Rattle.batches.proofs.Pieces.{length_contents, get_d_contents, length_cells, get_d_cells}
+use Rattle.batches.proofs.Pieces.{length_contents, length_cells}
 use Rattle.batches.proofs.Steps.{follow_parts, few_rows, few_lines}
-use Rattle.batches.proofs.Opened.{Signed, signed, enough, left, counts, follows, rows_length, row_count_is_told, lines_are, line_count_is_told}
+use Rattle.batches.proofs.Opened.{Signed, signed, enough, left, counts, long, follows, rows_length, row_count_is_told, lines_are, line_count_is_told}
 
 key_at : (contents : List Content) (cells : List Cell) (i : ℕ) (d : Content) → i < length contents → (get_or contents i d).key ≡ (get_or (rows_of contents cells) i no_row).key
 key_at [] cells i d h = absurd (omega arith)
@@ -58,45 +60,98 @@ module _ (bytes : List ℕ) (opened : opens bytes ≡ true) where
   pub length_counted : 16 + 32 * row_count bytes + 9 * line_count bytes ≡ length bytes
   length_counted = rows_length bytes accepted
 
-  pub rows_few : row_count bytes ≤ 1024
-  rows_few = few_rows bytes (counts bytes accepted)
+  pub has_a_head : 16 ≤ length bytes
+  has_a_head = omega (arith, length_counted)
 
-  pub lines_few : line_count bytes ≤ 1024
-  lines_few = few_lines bytes (counts bytes accepted)
+  pub its_length_fits : length_fits bytes ≡ true
+  its_length_fits = long bytes accepted
 
-  all_cells : 0 + length (cells_in bytes) ≡ line_count bytes
-  all_cells = omega (arith, length_cells bytes)
+  whole : 0 + length (cells_in bytes) ≡ line_count bytes
+  whole = omega (arith, length_cells bytes)
 
-  module _ (i : ℕ) (piece : List ℕ) (within : i < row_count bytes) (is : piece ≡ part (16 + 32 * i) 32 bytes) where
-    content_is : get_or (contents_in bytes) i (content_of []) ≡ content_of piece
-    content_is = get_d_contents bytes i within ∙ ap content_of (sym is)
+  pub all_signed : AllPass has_sign (cells_in bytes)
+  all_signed = λ j d h. signed_at (cells_in bytes) j d (signed bytes accepted) h
 
-    inside : i < length (contents_in bytes)
-    inside = omega (arith, length_contents bytes)
+  -- its lines as they stand
+  module _ (lines : List (List ℕ)) (cells : map cell_of lines ≡ cells_in bytes) where
+    pub lines_signed : AllPass has_sign (map cell_of lines)
+    lines_signed = rw cells all_signed
 
-    pub key_of_row : take 24 piece ≡ (get_or (rows_in bytes) i no_row).key
+    pub lines_held : map line_of (map cell_of lines) ≡ lines_of (rows_in bytes)
+    lines_held = ap (map line_of) cells ∙ sym (lines_are bytes accepted)
+
+    pub few_lines_held : length (map line_of (map cell_of lines)) ≤ 1024
+    few_lines_held = rw lines_held (omega (arith, lines_counted, few_lines bytes (counts bytes accepted)))
+
+    counted : length lines ≡ line_count bytes
+    counted = sym (length-map lines cell_of) ∙ ap length cells ∙ length_cells bytes
+
+    pub line_is : (j : ℕ) (piece : List ℕ) → j < length lines → piece ≡ get_or lines j piece → slice_get (lines_of (rows_in bytes)) j ≡ Some (line_of (cell_of piece))
+    line_is j piece within is =
+        ap (λ (xs : List Line). slice_get xs j) (sym lines_held)
+        ∙ slice_get-map line_of (map cell_of lines) j
+        ∙ ap (option_map line_of) (slice_get-map cell_of lines j ∙ ap (option_map cell_of) (slice_get_read lines (length lines) j piece refl within is))
+
+    pub no_line_is : (j : ℕ) → length lines ≤ j → slice_get (lines_of (rows_in bytes)) j ≡ None
+    no_line_is j h = slice_get_past (lines_of (rows_in bytes)) j (omega (arith, lines_counted, counted))
+
+    pub sign_is : (j : ℕ) (piece : List ℕ) → j < length lines → piece ≡ get_or lines j piece → has_sign (cell_of piece) ≡ true
+    sign_is j piece within is =
+        ap has_sign (ap cell_of is ∙ sym (get_or-map cell_of lines j piece (cell_of piece) within)) ∙ lines_signed j (cell_of piece) (omega (arith, length-map lines cell_of))
+
+  pub no_row_there : (rows : List (List ℕ)) → map content_of rows ≡ contents_in bytes → (i : ℕ) → length rows ≤ i → length (rows_in bytes) ≤ i
+  no_row_there rows contents i h = omega (arith, ap length contents, length-map rows content_of, length_contents bytes, rows_counted)
+
+  -- its rows and its lines as they stand
+  module _ (rows lines : List (List ℕ)) (contents : map content_of rows ≡ contents_in bytes) (cells : map cell_of lines ≡ cells_in bytes) where
+    pub rows_go_on : RowsGoOn 0 rows lines
+    rows_go_on =
+        let end : 0 + length lines ≡ line_count bytes = omega (arith, counted lines cells) in
+        record {
+          follow_to_the_last_line = rw (contents, end) (follows bytes accepted);
+          have_signs = lines_signed lines cells;
+          few_lines = omega (arith, counted lines cells, few_lines bytes (counts bytes accepted));
+        }
+
+    pub rows_held : rows_left 0 rows lines ≡ record { first = 0; rows = rows_in bytes }
     unfolding rows_in
-    key_of_row = ap (λ (row : Content). row.key) (sym content_is) ∙ key_at (contents_in bytes) (cells_in bytes) i (content_of []) inside
+    rows_held = rw (contents, cells)
 
-    pub first_of_row : number_at 4 piece 24 ≡ lines_before (rows_in bytes) i
-    unfolding rows_in
-    first_of_row = ap (λ (row : Content). row.first) (sym content_is) ∙ first_at 0 (line_count bytes) (contents_in bytes) (cells_in bytes) i (content_of []) (follows bytes accepted) all_cells inside ∙ omega arith
+    pub few_rows_held : length (rows_of (map content_of rows) (map cell_of lines)) ≤ 1024
+    few_rows_held = rw (ap (λ (left : RowsLeft). left.rows) rows_held) (omega (arith, rows_counted, few_rows bytes (counts bytes accepted)))
 
-    pub count_of_row : number_at 4 piece 28 ≡ length (get_or (rows_in bytes) i no_row).lines
-    unfolding rows_in
-    count_of_row = ap (λ (row : Content). row.count) (sym content_is) ∙ count_at 0 (line_count bytes) (contents_in bytes) (cells_in bytes) i (content_of []) (follows bytes accepted) all_cells inside
+  -- a row by its number
+  module _ (rows : List (List ℕ)) (contents : map content_of rows ≡ contents_in bytes) where
+    module _ (i : ℕ) (piece : List ℕ) (within : i < length rows) (is : piece ≡ get_or rows i piece) where
+      content_is : get_or (contents_in bytes) i (content_of piece) ≡ content_of piece
+      content_is = ap (λ (x : List Content). get_or x i (content_of piece)) (sym contents) ∙ get_or-map content_of rows i piece (content_of piece) within ∙ ap content_of (sym is)
 
-  pub line_there : (j : ℕ) (piece : List ℕ) → j < line_count bytes → piece ≡ part (16 + 32 * row_count bytes + 9 * j) 9 bytes → slice_get (lines_of (rows_in bytes)) j ≡ Some (line_of (cell_of piece))
-  line_there j piece within is =
-      let inside : j < length (cells_in bytes) = omega (arith, length_cells bytes) in
-      ap (λ (lines : List Line). slice_get lines j) (lines_are bytes accepted)
-      ∙ slice_get-get_or (map line_of (cells_in bytes)) j (line_of (cell_of [])) (omega (arith, length-map (cells_in bytes) line_of))
-      ∙ ap Some (get_or-map line_of (cells_in bytes) j (cell_of []) (line_of (cell_of [])) inside ∙ ap line_of (get_d_cells bytes j within ∙ ap cell_of (sym is)))
+      inside : i < length (contents_in bytes)
+      inside = omega (arith, ap length contents, length-map rows content_of)
 
-  pub sign_there : (j : ℕ) (piece : List ℕ) → j < line_count bytes → piece ≡ part (16 + 32 * row_count bytes + 9 * j) 9 bytes → has_sign (cell_of piece) ≡ true
-  sign_there j piece within is =
-      ap has_sign (ap cell_of is ∙ sym (get_d_cells bytes j within))
-      ∙ signed_at (cells_in bytes) j (cell_of []) (signed bytes accepted) (omega (arith, length_cells bytes))
+      pub row_within : i < length (rows_in bytes)
+      row_within = omega (arith, inside, length_contents bytes, rows_counted)
 
-  pub no_line_there : (j : ℕ) → line_count bytes ≤ j → slice_get (lines_of (rows_in bytes)) j ≡ None
-  no_line_there j h = slice_get_past (lines_of (rows_in bytes)) j (omega (arith, lines_counted))
+      pub key_of_row : take 24 piece ≡ (get_or (rows_in bytes) i no_row).key
+      unfolding rows_in
+      key_of_row = ap (λ (row : Content). row.key) (sym content_is) ∙ key_at (contents_in bytes) (cells_in bytes) i (content_of piece) inside
+
+      pub first_of_row : number_at 4 piece 24 ≡ lines_before (rows_in bytes) i
+      unfolding rows_in
+      first_of_row = ap (λ (row : Content). row.first) (sym content_is) ∙ first_at 0 (line_count bytes) (contents_in bytes) (cells_in bytes) i (content_of piece) (follows bytes accepted) whole inside ∙ omega arith
+
+      pub count_of_row : number_at 4 piece 28 ≡ length (get_or (rows_in bytes) i no_row).lines
+      unfolding rows_in
+      count_of_row = ap (λ (row : Content). row.count) (sym content_is) ∙ count_at 0 (line_count bytes) (contents_in bytes) (cells_in bytes) i (content_of piece) (follows bytes accepted) whole inside
+
+      pub row_there : (first count : ℕ) → first ≡ number_at 4 piece 24 → count ≡ number_at 4 piece 28 → (i < length (rows_in bytes)) × (take 24 piece ≡ (get_or (rows_in bytes) i no_row).key) × (first ≡ lines_before (rows_in bytes) i) × (count ≡ length (get_or (rows_in bytes) i no_row).lines)
+      row_there first count f n = (row_within, key_of_row, f ∙ first_of_row, n ∙ count_of_row)
+
+-- what each call on an open batch needs
+pub ruleset all_rows = (its_length_fits, rows_held, few_rows_held)
+
+pub ruleset all_lines = (its_length_fits, lines_signed, lines_held, few_lines_held)
+
+pub ruleset row_by_number = (its_length_fits, row_within)
+
+pub ruleset line_by_number = (its_length_fits, line_is, no_line_is, sign_is)

@@ -1,31 +1,12 @@
 -- The answer of opening, step by step and row by row. Assumes nothing.
-use Rattle.std.proofs.Common.{◌≡◌, ℕ, ◌+◌, ◌-◌, ◌*◌, ◌<◌, ◌≤◌, Bool, true, false, ◌&&◌, eqb, ltb, List, [], ◌∷◌, length, drop, sym, refl, ap, ◌∙◌, arith, ltb-true, eqb-true}
-use Rattle.std.proofs.lemmas.List.{drop-drop}
+use Rattle.std.proofs.Common.{◌≡◌, ℕ, ◌+◌, ◌*◌, ◌<◌, ◌≤◌, Bool, true, false, ◌&&◌, eqb, ltb, List, [], ◌∷◌, map, length, get_or, drop, sym, refl, ap, arith, ltb-true, eqb-true}
+use Rattle.std.proofs.lemmas.List.{drop_more}
 use Rattle.std.proofs.lemmas.Bool.Decides.{nat_tests}
-use Rattle.std.specs.List.{between}
-use Rattle.refusals.specs.Refusals.{Answer, Accepted, Refused, and_then}
-use Rattle.numbers.specs.BigEndian.{part, number_at}
+use Rattle.numbers.specs.BigEndian.{number_at}
 use Rattle.batches.specs.Reading.{Content, content_of, contents_in, cells_in, row_count, line_count}
-use Rattle.batches.specs.Opening.{has_letters, counts_fit, length_fits, follow, row_answer, lines_answer, open_answer}
-use Rattle.batches.proofs.Contents.{contents_step, contents_end}
+use Rattle.batches.specs.Opening.{has_letters, counts_fit, length_fits, follow, lines_answer, open_answer}
 
 module _ (bytes : List ℕ) where
-  pub fails_at_1 : has_letters bytes ≡ false → open_answer bytes ≡ Refused 2 1
-  unfolding open_answer
-  fails_at_1 a = rw a
-
-  pub fails_at_2 : has_letters bytes ≡ true → counts_fit bytes ≡ false → open_answer bytes ≡ Refused 2 2
-  unfolding open_answer
-  fails_at_2 a b = rw (a, b)
-
-  pub fails_at_3 : has_letters bytes ≡ true → counts_fit bytes ≡ true → length_fits bytes ≡ false → open_answer bytes ≡ Refused 2 3
-  unfolding open_answer
-  fails_at_3 a b d = rw (a, b, d)
-
-  pub fails_at_4 : has_letters bytes ≡ true → counts_fit bytes ≡ true → length_fits bytes ≡ true → follow 0 (contents_in bytes) (line_count bytes) ≡ false → open_answer bytes ≡ Refused 2 4
-  unfolding open_answer
-  fails_at_4 a b d e = rw (a, b, d, e)
-
   pub comes_to_the_lines : has_letters bytes ≡ true → counts_fit bytes ≡ true → length_fits bytes ≡ true → follow 0 (contents_in bytes) (line_count bytes) ≡ true → open_answer bytes ≡ lines_answer 0 (contents_in bytes) (cells_in bytes)
   unfolding open_answer
   comes_to_the_lines a b d e = rw (a, b, d, e)
@@ -61,29 +42,10 @@ pub follow_bound : (rows : List Content) (next end : ℕ) → follow next rows e
 follow_bound [] next end h = omega (arith, eqb-true next end h)
 follow_bound (row ∷ rows) next end h = let p = follow_parts next row rows end h in omega (arith, follow_bound rows (next + row.count) end p.2)
 
--- one row of the rows that are left
-module _ (bytes : List ℕ) (i first count : ℕ) (piece : List ℕ) (within : i < row_count bytes) (is : piece ≡ part (16 + 32 * i) 32 bytes) (counts : count ≡ number_at 4 piece 28) (good : follow first (drop i (contents_in bytes)) (line_count bytes) ≡ true) where
-  row_is : drop i (contents_in bytes) ≡ content_of piece ∷ drop (i + 1) (contents_in bytes)
-  row_is = rw is (contents_step bytes i within)
-
-  pub rest_follows : follow (first + count) (drop (i + 1) (contents_in bytes)) (line_count bytes) ≡ true
-  rest_follows = rw counts (follow_parts first (content_of piece) (drop (i + 1) (contents_in bytes)) (line_count bytes) (rw row_is at good)).2
-
-  pub row_ends : first + count ≤ line_count bytes
-  row_ends = follow_bound (drop (i + 1) (contents_in bytes)) (first + count) (line_count bytes) rest_follows
-
-  lines_step : lines_answer first (drop i (contents_in bytes)) (drop first (cells_in bytes)) ≡ and_then (row_answer first 0 (between first (first + count) (cells_in bytes))) (lines_answer (first + count) (drop (i + 1) (contents_in bytes)) (drop (first + count) (cells_in bytes)))
-  lines_step =
-      let e : first + count - first ≡ count = omega arith in
-      rw (row_is, e, drop-drop, counts)
-
-  pub row_stops : (number place : ℕ) → Refused number place ≡ row_answer first 0 (between first (first + count) (cells_in bytes)) → lines_answer first (drop i (contents_in bytes)) (drop first (cells_in bytes)) ≡ Refused number place
-  row_stops number place e =
-      lines_step ∙ ap (λ (x : Answer Unit). and_then x (lines_answer (first + count) (drop (i + 1) (contents_in bytes)) (drop (first + count) (cells_in bytes)))) (sym e)
-
-  pub row_passes : Accepted tt ≡ row_answer first 0 (between first (first + count) (cells_in bytes)) → lines_answer first (drop i (contents_in bytes)) (drop first (cells_in bytes)) ≡ lines_answer (first + count) (drop (i + 1) (contents_in bytes)) (drop (first + count) (cells_in bytes))
-  row_passes e =
-      lines_step ∙ ap (λ (x : Answer Unit). and_then x (lines_answer (first + count) (drop (i + 1) (contents_in bytes)) (drop (first + count) (cells_in bytes)))) (sym e)
-
-pub lines_end : (bytes : List ℕ) (i first : ℕ) → row_count bytes ≤ i → lines_answer first (drop i (contents_in bytes)) (drop first (cells_in bytes)) ≡ Accepted tt
-lines_end bytes i first h = rw (contents_end bytes i h)
+-- the next row ends before the last line
+pub row_ends : (rows : List (List ℕ)) (i first end : ℕ) → i < length rows → follow first (map content_of (drop i rows)) end ≡ true → first + number_at 4 (get_or rows i []) 28 ≤ end
+row_ends rows i first end within good =
+    let row = content_of (get_or rows i []) in
+    let rest = map content_of (drop (i + 1) rows) in
+    let next : map content_of (drop i rows) ≡ row ∷ rest = ap (map content_of) (drop_more rows i [] within) in
+    follow_bound rest (first + row.count) end (follow_parts first row rest end (rw next at good)).2

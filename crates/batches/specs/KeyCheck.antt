@@ -1,5 +1,5 @@
 -- The check of a batch against a key kind, which needs no index: its kind code, then its keys.
-use Rattle.std.specs.Prelude.{ℕ, zero, suc, Bool, true, ◌&&◌, List, [], ◌∷◌, Some, None, Option, ◌==◌}
+use Rattle.std.specs.Prelude.{ℕ, suc, Bool, true, ◌&&◌, List, [], ◌∷◌, Some, None, Option, ◌==◌}
 use Rattle.refusals.specs.Refusals.{Answer, Accepted, wants, and_then}
 use Rattle.keys.specs.Kinds.{Kind, Field, below}
 use Rattle.batches.specs.Layout.{Row}
@@ -17,8 +17,3 @@ keys_answer kind row before (first ∷ rows) =
 
 abbrev pub kind_and_keys_answer : Kind → (code : ℕ) → List Row → Answer Unit
 kind_and_keys_answer kind code rows = and_then (wants (code == kind.code) 3 0) (keys_answer kind 0 None rows)
-
--- the key of the row before row i, if there is one
-abbrev pub last_key : (i : ℕ) → Field → Option Field
-last_key zero key = None
-last_key (suc i) key = Some key

@@ -1,8 +1,7 @@
 -- What opening a batch answers: the first step of its form that fails, else its first bad line.
 use Rattle.std.specs.Prelude.{ℕ, suc, ◌+◌, ◌*◌, ◌^◌, Bool, ◌&&◌, ◌||◌, List, [], ◌∷◌, length, take, drop, ◌==◌, nat_le, nat_lt, slice_index}
 use Rattle.refusals.specs.Refusals.{Answer, Accepted, wants, and_then, is_accepted}
-use Rattle.batches.specs.Reading.{row_count, line_count, Content, contents_in, Cell, cells_in, line_of}
-use Rattle.batches.specs.declared.line.Line.{Line}
+use Rattle.batches.specs.Reading.{row_count, line_count, Content, contents_in, Cell, cells_in}
 
 -- step 1: at least 16 bytes, and the letters BTCH
 abbrev pub has_letters : List ℕ → Bool
@@ -28,10 +27,6 @@ has_sign cell = cell.sign == 43 || cell.sign == 45
 -- a sign, and a number above the one before it in its row, below 2^63
 abbrev pub good_cell : (low : ℕ) → Cell → Bool
 good_cell low cell = has_sign cell && (nat_lt low cell.number && nat_lt cell.number (2 ^ 63))
-
--- a line's sign and number, or its refusal
-abbrev pub sign_answer : Cell → (line : ℕ) → Answer Line
-sign_answer cell line = and_then (wants (has_sign cell) 5 line) (Accepted (line_of cell))
 
 -- the first bad line of a row; `line` is the number of the next, and `low` the number that it has to lie above
 abbrev pub row_answer : (line low : ℕ) → List Cell → Answer Unit

@@ -1,5 +1,6 @@
 -- Where the parts of a batch file stand, and the rows with lines that its bytes hold.
-use Rattle.std.specs.Prelude.{ℕ, zero, suc, ◌+◌, ◌*◌, cond, List, [], ◌∷◌, map, take, drop, ◌==◌, slice_index}
+use Rattle.std.specs.Prelude.{ℕ, ◌+◌, ◌*◌, cond, List, [], ◌∷◌, map, take, drop, ◌==◌, slice_index}
+use Rattle.std.specs.Simd.{first_chunks}
 use Rattle.numbers.specs.BigEndian.{number_at}
 use Rattle.batches.specs.declared.line.Sign.TheVariants.{Posting, Cancelling}
 use Rattle.batches.specs.declared.line.Line.{Line}
@@ -16,8 +17,7 @@ line_count bytes = number_at 4 bytes 12
 
 -- bytes cut into so many pieces of one width
 abbrev pub pieces : (width count : ℕ) → List ℕ → List (List ℕ)
-pieces width zero bytes = []
-pieces width (suc count) bytes = take width bytes ∷ pieces width count (drop width bytes)
+pieces width count bytes = first_chunks width count bytes
 
 -- a row as it stands: any key, any numbers
 pub record Content : Type 0 where

@@ -1,7 +1,19 @@
 -- What is read through an open batch.
-use Rattle.std.specs.Prelude.{◌≡◌, ℕ, ◌<◌, ◌≤◌, List, [], length, take, Some, None, Option, slice_index_or}
+use Rattle.std.specs.Prelude.{◌≡◌, ℕ, ◌+◌, ◌<◌, ◌≤◌, List, [], map, length, take, Some, None, Option, slice_index_or, IfSome}
+use Rattle.std.specs.Iterator.{YieldsFirstBy}
+use Rattle.batches.specs.declared.line.Line.{Line}
 use Rattle.batches.specs.declared.rows.BatchRow.{BatchRow}
+use Rattle.batches.specs.declared.rows.OpenRow.{OpenRow}
 use Rattle.batches.specs.Layout.{Row, lines_of}
+use Rattle.batches.specs.Reading.{cell_of, line_of}
+use Rattle.batches.specs.Walking.{RowsLeft}
+
+-- the lines of a row that was read, and the row
+abbrev pub lines_read : OpenRow → List Line
+lines_read row = map line_of (map cell_of row.pieces.now)
+
+abbrev pub row_read : OpenRow → Row
+row_read row = record { key = row.key.now; lines = lines_read row }
 
 -- how many lines stand before row i
 abbrev pub lines_before : List Row → (i : ℕ) → ℕ
@@ -18,3 +30,9 @@ RowAt rows i (Some row) =
     × (row.key.now ≡ (slice_index_or rows i no_row).key)
     × (row.first ≡ lines_before rows i)
     × (row.count ≡ length (slice_index_or rows i no_row).lines)
+
+-- the next row with the number of its first line; nothing after the last
+abbrev pub GivesRow : RowsLeft → Option OpenRow → RowsLeft → Type 0
+GivesRow left given then_left =
+    YieldsFirstBy row_read (λ (x : RowsLeft). x.rows) left given then_left
+    × IfSome given (λ row. (row.first ≡ left.first) × (then_left.first ≡ left.first + row.count))

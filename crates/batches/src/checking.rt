@@ -1,13 +1,11 @@
-ghost use Rattle.std.specs.Prelude.{◌≡◌, ℕ, ◌+◌, ◌*◌, ◌<◌, ◌≤◌, true, length, Decides};
-ghost use Rattle.std.specs.List.{between};
-ghost use Rattle.numbers.specs.BigEndian.{part};
+ghost use Rattle.std.specs.Prelude.{◌≡◌, ℕ, ◌+◌, ◌*◌, ◌<◌, ◌≤◌, true, map, length, drop, Some, None, Decides, if◌then◌else◌};
 ghost use Rattle.refusals.specs.Refusals.{answer_of, is_accepted};
 ghost use Rattle.batches.specs.Layout.{HasLayout};
-ghost use Rattle.batches.specs.Reading.{row_count, line_count, contents_in, cell_of, cells_in};
-ghost use Rattle.batches.specs.Opening.{has_letters, counts_fit, length_fits, follow, sign_answer, row_answer, lines_answer, open_answer};
+ghost use Rattle.batches.specs.Reading.{row_count, line_count, pieces, content_of, contents_in, cell_of, line_of, cells_in};
+ghost use Rattle.batches.specs.Opening.{has_letters, counts_fit, length_fits, follow, has_sign, row_answer, lines_answer, open_answer};
 
 use crate::line::{Line, Sign};
-use numbers::{u32_at, u64_at};
+use numbers::BigEndian;
 use refusals::Refusal;
 
 const LETTERS: &[u8] = b"BTCH";
@@ -30,8 +28,7 @@ fn counts_fit(bytes: &[u8]) -> bool
     requires { 16 ≤ length bytes.now }
     ensures { result ≡ counts_fit bytes.now }
 {
-    let zeros = bytes[5] == 0 && bytes[6] == 0 && bytes[7] == 0;
-    zeros && u32_at(bytes, 8) <= MOST && u32_at(bytes, 12) <= MOST
+    bytes[5..8] == [0, 0, 0] && u32::read_at(bytes, 8) <= MOST && u32::read_at(bytes, 12) <= MOST
 }
 
 // Step 3.
@@ -39,73 +36,84 @@ fn length_fits(bytes: &[u8]) -> bool
     requires { counts_fit bytes.now ≡ true }
     ensures { result ≡ length_fits bytes.now }
 {
-    bytes.len() == 16 + 32 * u32_at(bytes, 8) as usize + 9 * u32_at(bytes, 12) as usize
+    bytes.len() == 16 + 32 * u32::read_at(bytes, 8) as usize + 9 * u32::read_at(bytes, 12) as usize
 }
 
-// The 32 bytes of row i.
-pub(crate) fn row_piece(bytes: &[u8], i: usize) -> &[u8]
-    requires { 16 + 32 * (i + 1) ≤ length bytes.now }
-    ensures piece { result.now ≡ part (16 + 32 * i) 32 bytes.now }
-    ensures long { length result.now ≡ 32 }
+// So many pieces of one width from `at` on.
+#[tactic(auto, using(crate::proofs::Pieces::chunks_of_front))]
+fn pieces<const WIDTH: usize>(bytes: &[u8], at: usize, count: u32) -> &[[u8; WIDTH]]
+    requires has_a_width { 0 < WIDTH }
+    requires stand_there { at + count * WIDTH ≤ length bytes.now }
+    ensures { result.now ≡ pieces WIDTH count (drop at bytes.now) }
 {
-    let at = 16 + 32 * i;
-    &bytes[at..at + 32]
+    let (pieces, _) = bytes[at..at + count as usize * WIDTH].as_chunks::<WIDTH>();
+    pieces
 }
 
-// Step 4.
-fn rows_follow(bytes: &[u8]) -> bool
-    requires { (counts_fit bytes.now ≡ true) × (length_fits bytes.now ≡ true) }
-    ensures { result ≡ follow 0 (contents_in bytes.now) (line_count bytes.now) }
+// The rows as they stand, 32 bytes each.
+#[tactic(auto, using(crate::proofs::Pieces::length_pieces), unfolding(crate::specs::Reading::contents_in))]
+pub(crate) fn rows(bytes: &[u8]) -> &[[u8; 32]]
+    requires { length_fits bytes.now ≡ true }
+    ensures are_the_contents { map content_of result.now ≡ contents_in bytes.now }
+    ensures counted { length result.now ≡ row_count bytes.now }
 {
-    let mut next = 0u64;
-    for i in 0..u32_at(bytes, 8) as usize {
-        let row = row_piece(bytes, i);
-        let count = u64::from(u32_at(row, 28));
-        if count == 0 || u64::from(u32_at(row, 24)) != next {
+    pieces::<32>(bytes, 16, u32::read_at(bytes, 8))
+}
+
+// The lines as they stand, nine bytes each.
+#[tactic(auto, using(crate::proofs::Pieces::length_pieces), unfolding(crate::specs::Reading::cells_in))]
+pub(crate) fn lines(bytes: &[u8]) -> &[[u8; 9]]
+    requires { length_fits bytes.now ≡ true }
+    ensures are_the_cells { map cell_of result.now ≡ cells_in bytes.now }
+    ensures counted { length result.now ≡ line_count bytes.now }
+{
+    let at = 16 + 32 * u32::read_at(bytes, 8) as usize;
+    pieces::<9>(bytes, at, u32::read_at(bytes, 12))
+}
+
+// Step 4, of a batch with so many lines.
+fn rows_follow(rows: &[[u8; 32]], lines: usize) -> bool
+    requires { length rows.now ≤ 1024 }
+    ensures { result ≡ follow 0 (map content_of rows.now) lines }
+{
+    let mut next = 0;
+    for row in rows {
+        let count = u32::read_at(row, 28) as usize;
+        if count == 0 || u32::read_at(row, 24) as usize != next {
             return false;
         }
         next += count;
     }
-    next == u64::from(u32_at(bytes, 12))
+    next == lines
 }
 
-// The nine bytes of line j, the rows ending at `lines`.
-pub(crate) fn line_piece(bytes: &[u8], lines: usize, j: u32) -> &[u8]
-    requires { lines + 9 * (j + 1) ≤ length bytes.now }
-    ensures piece { result.now ≡ part (lines + 9 * j) 9 bytes.now }
-    ensures long { length result.now ≡ 9 }
+/// A line from its nine bytes, a sign byte and then the posting number; nothing where the byte is no sign.
+#[tactic(auto, using(crate::proofs::Cells::number_there))]
+pub(crate) fn read_line(piece: &[u8; 9]) -> Option<Line>
+    ensures { result ≡ (if has_sign (cell_of piece.now) then Some (line_of (cell_of piece.now)) else None) }
 {
-    let at = lines + 9 * j as usize;
-    &bytes[at..at + 9]
-}
-
-/// Line j, from its nine bytes: a sign byte, then the posting number.
-pub(crate) fn read_line(piece: &[u8], j: u32) -> Result<Line, Refusal>
-    requires { length piece.now ≡ 9 }
-    ensures { answer_of result ≡ sign_answer (cell_of piece.now) j }
-{
-    match piece {
-        [b'+', number @ ..] => Ok(Line {
+    match &piece[..] {
+        [b'+', number @ ..] => Some(Line {
             sign: Sign::Posting,
-            number: u64_at(number, 0),
+            number: u64::read_front(number),
         }),
-        [b'-', number @ ..] => Ok(Line {
+        [b'-', number @ ..] => Some(Line {
             sign: Sign::Cancelling,
-            number: u64_at(number, 0),
+            number: u64::read_front(number),
         }),
-        _ => Err(Refusal::Line(j)),
+        _ => None,
     }
 }
 
-// The first bad line of a row, from its line `first` up to `end`.
-fn check_row_lines(bytes: &[u8], first: u32, end: u32) -> Result<(), Refusal>
-    requires { (16 + 32 * row_count bytes.now + 9 * line_count bytes.now ≡ length bytes.now) × ((first ≤ end) × ((end ≤ line_count bytes.now) × (row_count bytes.now ≤ 1024))) }
-    ensures { answer_of result ≡ row_answer first 0 (between first end (cells_in bytes.now)) }
+// The first bad line of a row, whose first line has the number `first`.
+fn check_row_lines(first: u32, lines: &[[u8; 9]]) -> Result<(), Refusal>
+    requires { first + length lines.now ≤ 1024 }
+    ensures { answer_of result ≡ row_answer first 0 (map cell_of lines.now) }
 {
-    let lines = 16 + 32 * u32_at(bytes, 8) as usize;
     let mut low = 0u64;
-    for j in first..end {
-        let line = read_line(line_piece(bytes, lines, j), j)?;
+    for (i, piece) in lines.iter().enumerate() {
+        let j = first + i as u32;
+        let line = read_line(piece).ok_or(Refusal::Line(j))?;
         if line.number <= low || line.number >= BEYOND {
             return Err(Refusal::Line(j));
         }
@@ -115,20 +123,26 @@ fn check_row_lines(bytes: &[u8], first: u32, end: u32) -> Result<(), Refusal>
 }
 
 // The first bad line of the rows.
-fn check_lines(bytes: &[u8]) -> Result<(), Refusal>
-    requires { (counts_fit bytes.now ≡ true) × ((length_fits bytes.now ≡ true) × (follow 0 (contents_in bytes.now) (line_count bytes.now) ≡ true)) }
-    ensures { answer_of result ≡ lines_answer 0 (contents_in bytes.now) (cells_in bytes.now) }
+#[tactic(auto, using(crate::proofs::Steps::row_ends))]
+fn check_lines(rows: &[[u8; 32]], lines: &[[u8; 9]]) -> Result<(), Refusal>
+    requires few { length lines.now ≤ 1024 }
+    requires follow_one_another { follow 0 (map content_of rows.now) (length lines.now) ≡ true }
+    ensures { answer_of result ≡ lines_answer 0 (map content_of rows.now) (map cell_of lines.now) }
 {
     let mut first = 0;
-    for i in 0..u32_at(bytes, 8) as usize {
-        let end = first + u32_at(row_piece(bytes, i), 28);
-        check_row_lines(bytes, first, end)?;
-        first = end;
+    let mut left = lines;
+    for row in rows {
+        let count = u32::read_at(row, 28);
+        let (own, others) = left.split_at(count as usize);
+        check_row_lines(first, own)?;
+        first += count;
+        left = others;
     }
     Ok(())
 }
 
 // The first step of the form that fails, else the first bad line.
+#[tactic(auto, unfolding(crate::specs::Opening::open_answer))]
 fn first_fault(bytes: &[u8]) -> Result<(), Refusal>
     ensures { answer_of result ≡ open_answer bytes.now }
 {
@@ -141,10 +155,12 @@ fn first_fault(bytes: &[u8]) -> Result<(), Refusal>
     if !length_fits(bytes) {
         return Err(Refusal::Form(3));
     }
-    if !rows_follow(bytes) {
+    let rows = rows(bytes);
+    let lines = lines(bytes);
+    if !rows_follow(rows, lines.len()) {
         return Err(Refusal::Form(4));
     }
-    check_lines(bytes)
+    check_lines(rows, lines)
 }
 
 /// Whether the bytes are a batch file. It changes nothing, and looks neither at keys nor at the kind.

@@ -8,7 +8,8 @@ pub use laws::files_are_read_back;
 pub use line::{Line, Sign};
 pub use open::OpenBatch;
 pub use reversing::reverse;
-pub use rows::BatchRow;
+pub use rows::{BatchRow, OpenRow};
+pub use walking::{Lines, Rows};
 
 mod checking;
 mod key_check;
@@ -18,3 +19,4 @@ pub mod open;
 mod reading;
 mod reversing;
 pub mod rows;
+mod walking;

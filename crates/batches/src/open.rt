@@ -4,6 +4,8 @@ ghost use Rattle.batches.specs.Opening.{opens};
 /// A batch that opened, over its bytes. It ends merged or withdrawn; letting it go is refused.
 pub struct OpenBatch<'a> {
     pub(crate) bytes: &'a [u8],
+
+    // A field that no code reads: the contract of the drop speaks of it, so that a batch let go is refused by the check.
     ended: bool,
     ghost opened: { opens bytes.now ≡ true },
 }
@@ -17,9 +19,9 @@ impl Drop for OpenBatch<'_> {
 }
 
 impl<'a> OpenBatch<'a> {
-    // A batch over bytes that open, neither merged nor withdrawn.
-    pub(crate) fn over(bytes: &'a [u8]) -> OpenBatch<'a>
-        requires { opens bytes.now ≡ true }
+    /// The batch over bytes that were checked: this cannot refuse.
+    pub fn make(bytes: &'a [u8]) -> OpenBatch<'a>
+        requires was_checked { opens bytes.now ≡ true }
         ensures is_over_these_bytes { result.bytes ≡ bytes.entry }
         ensures is_neither_merged_nor_withdrawn { result.ended ≡ false }
     {

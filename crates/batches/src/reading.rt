@@ -1,33 +1,17 @@
-ghost use Rattle.std.specs.Prelude.{◌≡◌, ◌≤◌, true, false, length};
+ghost use Rattle.std.specs.Prelude.{◌≡◌, ◌≤◌, length};
 ghost use Rattle.std.specs.List.{slice_get};
 ghost use Rattle.batches.specs.Layout.{lines_of};
 ghost use Rattle.batches.specs.Reading.{kind_code, rows_in};
-ghost use Rattle.batches.specs.Opening.{opens};
 ghost use Rattle.batches.specs.Rows.{RowAt};
 
-use crate::checking::{line_piece, read_line, row_piece};
+use crate::checking::{lines, read_line, rows};
 use crate::line::Line;
 use crate::open::OpenBatch;
-use crate::rows::BatchRow;
-use numbers::u32_at;
-
-fn kind_of(bytes: &[u8]) -> u8
-    requires { 16 ≤ length bytes.now }
-    ensures { result ≡ kind_code bytes.now }
-{
-    bytes[4]
-}
+use crate::rows::{BatchRow, OpenRow};
+use crate::walking::{Lines, Rows};
+use numbers::BigEndian;
 
 impl<'a> OpenBatch<'a> {
-    /// The batch over bytes that were checked: this cannot refuse.
-    pub fn make(bytes: &'a [u8]) -> OpenBatch<'a>
-        requires was_checked { opens bytes.now ≡ true }
-        ensures is_over_these_bytes { result.bytes ≡ bytes.entry }
-        ensures is_neither_merged_nor_withdrawn { result.ended ≡ false }
-    {
-        OpenBatch::over(bytes)
-    }
-
     /// The bytes, as they were handed in.
     pub fn bytes(&self) -> &'a [u8]
         ensures are_those_handed_in { result ≡ self.now.bytes }
@@ -36,58 +20,91 @@ impl<'a> OpenBatch<'a> {
     }
 
     /// Ends the batch unmerged, and answers its number of lines.
+    #[tactic(auto, using(crate::proofs::Rowwise::lines_counted))]
     pub fn withdraw(self) -> u32
         ensures is_the_number_of_lines { result ≡ length (lines_of (rows_in self.entry.bytes.now)) }
     {
-        u32_at(self.spend(), 12)
+        u32::read_at(self.spend(), 12)
     }
 
+    // A number and no enum: makers have kinds of their own.
+    #[tactic(auto, using(crate::proofs::Rowwise::has_a_head))]
     pub fn kind_code(&self) -> u8
         ensures is_the_kind_code { result ≡ kind_code self.now.bytes.now }
     {
-        kind_of(self.bytes)
+        self.bytes[4]
     }
 
+    #[tactic(auto, using(crate::proofs::Rowwise::rows_counted))]
     pub fn row_count(&self) -> u32
         ensures is_the_number_of_rows { result ≡ length (rows_in self.now.bytes.now) }
     {
-        u32_at(self.bytes, 8)
+        u32::read_at(self.bytes, 8)
     }
 
+    #[tactic(auto, using(crate::proofs::Rowwise::lines_counted))]
     pub fn line_count(&self) -> u32
         ensures is_the_number_of_lines { result ≡ length (lines_of (rows_in self.now.bytes.now)) }
     {
-        u32_at(self.bytes, 12)
+        u32::read_at(self.bytes, 12)
     }
 
     /// Row i, or nothing past the last.
+    #[tactic(auto, using(crate::proofs::Rowwise::row_by_number))]
     pub fn row(&self, i: u32) -> Option<BatchRow<'a>>
         ensures is_row_i { RowAt (rows_in self.now.bytes.now) i result }
     {
-        let bytes = self.bytes;
-        if i >= u32_at(bytes, 8) {
-            return None;
-        }
-        let piece = row_piece(bytes, i as usize);
+        let piece = rows(self.bytes).get(i as usize)?;
         Some(BatchRow {
-            key: &piece[0..24],
-            first: u32_at(piece, 24),
-            count: u32_at(piece, 28),
+            key: &piece[..24],
+            first: u32::read_at(piece, 24),
+            count: u32::read_at(piece, 28),
         })
     }
 
     /// Line j of the file, or nothing past the last.
+    #[tactic(auto, using(crate::proofs::Rowwise::line_by_number))]
     pub fn line(&self, j: u32) -> Option<Line>
         ensures is_line_j { result ≡ slice_get (lines_of (rows_in self.now.bytes.now)) j }
     {
-        let bytes = self.bytes;
-        if j >= u32_at(bytes, 12) {
-            return None;
+        read_line(lines(self.bytes).get(j as usize)?)
+    }
+
+    /// All rows, first to last.
+    #[tactic(auto, using(crate::proofs::Rowwise::all_rows))]
+    pub fn rows(&self) -> Rows<'a>
+        ensures are_the_rows { result ≡ record { first = 0; rows = rows_in self.now.bytes.now } }
+        ensures are_at_most_1024 { length result.rows ≤ 1024 }
+    {
+        Rows {
+            rows: rows(self.bytes).iter(),
+            lines: lines(self.bytes),
+            first: 0,
         }
-        let lines = 16 + 32 * u32_at(bytes, 8) as usize;
-        match read_line(line_piece(bytes, lines, j), j) {
-            Ok(line) => Some(line),
-            Err(_) => None,
+    }
+
+    /// All lines in the order of the file.
+    #[tactic(auto, using(crate::proofs::Rowwise::all_lines))]
+    pub fn lines(&self) -> Lines<'a>
+        ensures are_the_lines { result ≡ lines_of (rows_in self.now.bytes.now) }
+        ensures are_at_most_1024 { length result ≤ 1024 }
+    {
+        Lines {
+            pieces: lines(self.bytes).iter(),
+        }
+    }
+}
+
+impl<'a> OpenRow<'a> {
+    ghost use Rattle.std.specs.Prelude.{◌≡◌};
+    ghost use Rattle.batches.specs.Rows.{lines_read};
+
+    /// The lines of the row, first to last.
+    pub fn lines(&self) -> Lines<'a>
+        ensures are_the_lines_of_the_row { result ≡ lines_read self.now }
+    {
+        Lines {
+            pieces: self.pieces.iter(),
         }
     }
 }

@@ -1,8 +1,7 @@
-use Rattle.std.proofs.Common.{◌≡◌}
-use Rattle.std.specs.List.{between}
-use Rattle.batches.specs.Reading.{cells_in}
+use Rattle.std.proofs.Common.{◌≡◌, ◌+◌, map, drop}
+use Rattle.batches.specs.Reading.{cell_of}
 use Rattle.batches.specs.Opening.{row_answer}
 use Rattle.batches.proofs.checking.check_row_lines.Given as goal
 
-abbrev pub invariant-loop-j : goal.invariant-loop-j
-invariant-loop-j l = row_answer l.first 0 (between l.first l.end (cells_in l.bytes)) ≡ row_answer l.j l.low (between l.j l.end (cells_in l.bytes))
+abbrev pub invariant-loop-i : goal.invariant-loop-i
+invariant-loop-i l = row_answer l.first 0 (map cell_of l.lines) ≡ row_answer (l.first + l.i) l.low (map cell_of (drop l.i l.lines))
