@@ -54,7 +54,7 @@ line_turned cell has = go (eqb cell.sign 43) (eqb cell.sign 45) has
         → ◌≡◌ {A = Line} (record { sign = cond (eqb (cond plus 45 (cond minus 43 cell.sign)) 43) Posting Cancelling; number = cell.number }) (record { sign = other_sign (cond plus Posting Cancelling); number = cell.number })
     go true minus e = refl
     go false true e = refl
-    go false false e = absurd (let z : ◌≡◌ {A = ℕ} 0 1 = cc in omega arith)
+    go false false e = cc
 
 row_turned : (line low : ℕ) (cells : List Cell) → row_answer line low (map turned_cell cells) ≡ row_answer line low cells
 row_turned line low [] = refl

@@ -1,6 +1,7 @@
 -- What the entries of a valid tree are: sorted, within the sizes, and spelling a book. Assumes nothing.
-use Rattle.std.proofs.Common.{◌≡◌, ℕ, ◌≤◌, List, [], ◌∷◌, ◌++◌, map, length, Some, None, Option, refl, ap, subst}
-use Rattle.std.specs.List.{flat_map, AllByRecursion}
+use Rattle.std.proofs.Common.{◌≡◌, ℕ, ◌≤◌, List, [], ◌∷◌, ◌++◌, map, length, Some, None, Option, ap, subst}
+use Rattle.std.proofs.lemmas.List.Folds.{flat_map-map}
+use Rattle.std.specs.List.{AllByRecursion}
 use Rattle.std.proofs.ByRecursion.{All-weaker, All-map}
 use Rattle.keys.specs.Kinds.{Kind, Field}
 use Rattle.book.specs.Books.{Held, SortedFrom, Sorted, Postings, IsBook}
@@ -9,10 +10,6 @@ use Rattle.book.specs.Entries.{EntryFits as EntryIsWithinSizes}
 use Rattle.tree.specs.Trees.{RecordAt, EntryAt, entries_of, held}
 use Rattle.tree.proofs.Rising.{keys_rise}
 use Rattle.tree.specs.Valid.{Pages, Rise, postings_at, EntryFits, Valid}
-
-joined_mapped : {X Y A : Type 0} (f : Y → List A) (g : X → Y) (xs : List X) → flat_map f (map g xs) ≡ flat_map (λ (x : X). f (g x)) xs
-joined_mapped f g [] = refl
-joined_mapped f g (x ∷ xs) = ap (λ (list : List _). f (g x) ++ list) (joined_mapped f g xs)
 
 -- entries and book are sorted where the keys rise
 module _ (kind : Kind) where
@@ -25,8 +22,8 @@ module _ (kind : Kind) where
   sorted_book before (entry ∷ entries) sorted = (sorted.0, sorted.1, sorted_book (Some entry.key) entries sorted.2)
 
 -- an entry of a leaf has the postings of the entry without page numbers
-postings_held : (entry : EntryAt) → postings_in (held entry).value ≡ postings_at entry
-postings_held entry = ap (λ (l : List ℕ). entry.inline ++ l) (joined_mapped (λ (r : List ℕ). r) (λ (r : RecordAt). r.postings) entry.records)
+pub postings_held : (entry : EntryAt) → postings_in (held entry).value ≡ postings_at entry
+postings_held entry = ap (λ (l : List ℕ). entry.inline ++ l) (flat_map-map (λ (r : List ℕ). r) (λ (r : RecordAt). r.postings) entry.records)
 
 abbrev HoldsPostings : Held Entry → Type 0
 HoldsPostings entry = Postings (postings_in entry.value)

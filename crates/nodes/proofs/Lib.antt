@@ -4,3 +4,4 @@ pub mod Spelling
 pub mod Writing
 pub mod Sorting
 pub mod Reading
+pub mod Pieces

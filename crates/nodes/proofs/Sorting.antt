@@ -1,5 +1,5 @@
 -- Byte 0 of each image, and the sort that it names. Assumes nothing.
-use Rattle.std.proofs.Common.{◌≡◌, ℕ, cond, eqb, List, get_or, Some, None, sym, refl, ap, ◌∙◌}
+use Rattle.std.proofs.Common.{◌≡◌, ℕ, cond, eqb, List, get_or, Some, None, Option, MatchOption, sym, refl, ap, ◌∙◌}
 use Rattle.nodes.specs.declared.sort.PageSort.{PageSort}
 use Rattle.nodes.specs.declared.sort.PageSort.TheVariants.{Header, Inner, Leaf, Record, Free}
 use Rattle.nodes.specs.Sorts.{sort_number}
@@ -42,7 +42,7 @@ free_first v = refl
 first : (page image : List ℕ) (n : ℕ) → get_or image 0 0 ≡ n → page ≡ image → get_or page 0 0 ≡ n
 first page image n f e = ap (λ (b : List ℕ). get_or b 0 0) e ∙ f
 
-pub named : (page : List ℕ) (sort : PageSort) → get_or page 0 0 ≡ sort_number sort → SortsTellImages page (Some sort)
+named : (page : List ℕ) (sort : PageSort) → get_or page 0 0 ≡ sort_number sort → SortsTellImages page (Some sort)
 named page sort h =
     record {
       headers = λ v e. ap Some (same_sort sort Header (sym h ∙ first page (header_image v) 1 (header_first v) e));
@@ -52,7 +52,7 @@ named page sort h =
       free_pages = λ v e. ap Some (same_sort sort Free (sym h ∙ first page (free_image v) 5 (free_first v) e));
     }
 
-pub not_named : (page : List ℕ) → ((sort : PageSort) → get_or page 0 0 ≡ sort_number sort → ⊥) → SortsTellImages page None
+not_named : (page : List ℕ) → ((sort : PageSort) → get_or page 0 0 ≡ sort_number sort → ⊥) → SortsTellImages page None
 not_named page h =
     record {
       headers = λ v e. absurd (h Header (first page (header_image v) 1 (header_first v) e));
@@ -62,10 +62,7 @@ not_named page h =
       free_pages = λ v e. absurd (h Free (first page (free_image v) 5 (free_first v) e));
     }
 
--- a number that no sort has
-pub none_named : (n : ℕ) → (n ≡ 1 → ⊥) → (n ≡ 2 → ⊥) → (n ≡ 3 → ⊥) → (n ≡ 4 → ⊥) → (n ≡ 5 → ⊥) → (sort : PageSort) → n ≡ sort_number sort → ⊥
-none_named n a b d e f Header = a
-none_named n a b d e f Inner = b
-none_named n a b d e f Leaf = d
-none_named n a b d e f Record = e
-none_named n a b d e f Free = f
+-- the sort that byte 0 names tells that of each image
+pub tells : (page : List ℕ) (r : Option PageSort) → MatchOption r ((sort : PageSort) → get_or page 0 0 ≡ sort_number sort → ⊥) (λ (sort : PageSort). get_or page 0 0 ≡ sort_number sort) → SortsTellImages page r
+tells page None h = not_named page h
+tells page (Some sort) h = named page sort h

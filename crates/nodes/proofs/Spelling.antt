@@ -1,5 +1,5 @@
 -- Each image is a page, and what stands in it is the value that it is the image of. Assumes nothing.
-use Rattle.std.proofs.Common.{◌≡◌, ℕ, ◌+◌, ◌-◌, ◌*◌, ◌^◌, ◌<◌, ◌≤◌, min, max, Bool, false, cond, List, [], ◌∷◌, ◌++◌, map, length, drop, replicate, Some, None, Decides, Option, sym, refl, ap, ◌∙◌, subst, arith, lit<, lit≤, MatchOption}
+use Rattle.std.proofs.Common.{◌≡◌, ℕ, ◌+◌, ◌-◌, ◌^◌, ◌<◌, min, max, List, [], ◌∷◌, ◌++◌, map, length, drop, replicate, Some, None, Option, sym, refl, ap, ◌∙◌, subst, arith, lit<, lit≤, MatchOption}
 use Rattle.std.proofs.lemmas.List.{append_assoc, append-nil, take_at, take_all, drop_at, length-append}
 use Rattle.std.specs.List.{flat_map, AllByRecursion}
 use Rattle.numbers.specs.BigEndian.{number_of, bytes_of, Bytes, part, number_at}
@@ -10,17 +10,18 @@ use Rattle.nodes.specs.Sorts.{sort_number}
 use Rattle.nodes.specs.Layout.{padded, HeaderPage, InnerRow, InnerPage, LeafEntry, LeafPage, RecordPage, FreePage, front_bytes, header_image, row_bytes, inner_image, entry_bytes, leaf_image, record_image, free_image, HeaderFits, RowFits, InnerFits, EntryFits, LeafFits, RecordFits, FreeFits}
 use Rattle.nodes.specs.Readings.{pieces, header_in, row_in, inner_in, entry_in, leaf_in, record_in, free_in}
 use Rattle.nodes.specs.Codec.{Spells, Decoded, Encoded}
-use Rattle.nodes.proofs.Padding.{length_padded, padded_append, bytes_append, bytes_padded, length_joined, bytes_joined}
+use Rattle.nodes.specs.PageLaws.{length_padded, length_front, map_all, length_row, length_4, long_inline, length_entry, header_long, inner_long, leaf_long, record_long, free_long}
+use Rattle.nodes.proofs.Padding.{padded_append, bytes_append, bytes_padded, bytes_joined}
 use Rattle.nodes.proofs.Cutting.{pieces_joined, number_there}
-
-map_all : {X : Type 0} (P Q : X → Type 0) (xs : List X) → ((x : X) → P x → Q x) → AllByRecursion P xs → AllByRecursion Q xs
-map_all P Q [] f h = tt
-map_all P Q (x ∷ xs) f h = (f x h.0, map_all P Q xs f h.1)
 
 -- a value from its image, for a page of any sort
 module _ {V : Type 0} (image : V → List ℕ) (Fits : V → Type 0) (reading : List ℕ → V) (back : (v : V) → Fits v → reading (image v) ≡ v) where
   pub only_one : (v w : V) → Fits v → Fits w → image v ≡ image w → v ≡ w
   only_one v w f g e = sym (back v f) ∙ ap reading e ∙ back w g
+
+  -- what stands in an image
+  pub read_back : (page : List ℕ) (x : V) → x ≡ reading page → (v : V) → Fits v → page ≡ image v → x ≡ v
+  read_back page x stands v fits e = stands ∙ ap reading e ∙ back v fits
 
   -- bytes that are not the image of what stands in them are no image
   pub no_image : (bytes page : List ℕ) (x : V) → x ≡ reading bytes → page ≡ image x → (bytes ≡ page → ⊥) → (v : V) → Fits v → bytes ≡ image v → ⊥
@@ -43,13 +44,6 @@ module _ {V : Type 0} (image : V → List ℕ) (Fits : V → Type 0) (reading : 
       back_again None d = d v s.fits s.is_its_image
       back_again (Some x) d = s.of_no_other (meaning x) d.fits d.is_its_image
 
-pub spelled_too : {V : Type 0} (image : V → List ℕ) (Fits : V → Type 0) (page same : List ℕ) (v : V) → page ≡ same → Spells image Fits same v → Spells image Fits page v
-spelled_too image Fits page same v e s = subst (λ (bytes : List ℕ). Spells image Fits bytes v) (sym e) s
-
--- where a test of sameness failed
-pub differ : (r : Bool) (P : Type 0) → Decides r P → r ≡ false → P → ⊥
-differ r P d e p = let z : ◌≡◌ {A = ℕ} 0 1 = ap (λ (b : Bool). cond b 0 1) (sym (d.1 p) ∙ e) in omega arith
-
 -- what stands in front
 front_count : (sort : PageSort) (count next : ℕ) (rest : List ℕ) → front_bytes sort count next ++ rest ≡ (sort_number sort ∷ 0 ∷ []) ++ (bytes_of 2 count ++ (bytes_of 4 next ++ (replicate 24 0 ++ rest)))
 unfolding padded
@@ -58,9 +52,6 @@ front_count sort count next rest = refl
 front_next : (sort : PageSort) (count next : ℕ) (rest : List ℕ) → front_bytes sort count next ++ rest ≡ (sort_number sort ∷ 0 ∷ bytes_of 2 count) ++ (bytes_of 4 next ++ (replicate 24 0 ++ rest))
 unfolding padded
 front_next sort count next rest = refl
-
-pub length_front : (sort : PageSort) (count next : ℕ) → length (front_bytes sort count next) ≡ 32
-length_front sort count next = length_padded 32 (sort_number sort ∷ 0 ∷ (bytes_of 2 count ++ bytes_of 4 next)) (lit≤ tt)
 
 row_0 : (first : ℕ) (rest : List ℕ) → padded 28 (bytes_of 4 first) ++ rest ≡ bytes_of 4 first ++ (replicate 24 0 ++ rest)
 unfolding padded
@@ -93,10 +84,6 @@ module _ (sort : PageSort) (count next : ℕ) (rest : List ℕ) where
   pub rest_there : drop 32 (padded 512 (front_bytes sort count next ++ rest)) ≡ padded 480 rest
   rest_there = ap (drop 32) fronted ∙ drop_at (front_bytes sort count next) (padded 480 rest) 32 (length_front sort count next)
 
-  pub length_page : length rest ≤ 480 → length (padded 512 (front_bytes sort count next ++ rest)) ≡ 512
-  length_page h =
-      length_padded 512 (front_bytes sort count next ++ rest) (let a = length-append (front_bytes sort count next) rest in let b = length_front sort count next in omega arith)
-
   pub bytes_page : Bytes rest → Bytes (padded 512 (front_bytes sort count next ++ rest))
   bytes_page h = bytes_padded 512 (front_bytes sort count next ++ rest) (bytes_append (front_bytes sort count next) rest (bytes_front sort count next) h)
 
@@ -114,10 +101,6 @@ posting_back n h = (refl, number_bytes_of 8 n h)
 postings_back : (ns : List ℕ) → AllByRecursion (λ n. n < 2 ^ 64) ns → AllByRecursion (λ n. (length (bytes_of 8 n) ≡ 8) × (number_of (bytes_of 8 n) ≡ n)) ns
 postings_back ns h = map_all (λ n. n < 2 ^ 64) (λ n. (length (bytes_of 8 n) ≡ 8) × (number_of (bytes_of 8 n) ≡ n)) ns posting_back h
 
-pub length_postings : (ns : List ℕ) → length (flat_map (bytes_of 8) ns) ≡ 8 * length ns
-length_postings [] = refl
-length_postings (n ∷ ns) = let ih = length_postings ns in length-append (bytes_of 8 n) (flat_map (bytes_of 8) ns) ∙ omega arith
-
 bytes_postings : (ns : List ℕ) → Bytes (flat_map (bytes_of 8) ns)
 bytes_postings [] = tt
 bytes_postings (n ∷ ns) = bytes_append (bytes_of 8 n) (flat_map (bytes_of 8) ns) (bytes_bytes_of 8 n) (bytes_postings ns)
@@ -132,9 +115,7 @@ free_back v fits =
     ap (λ (n : ℕ). made_free n) (ap (λ (b : List ℕ). number_at 4 (padded 512 b) 4) (sym (append-nil (front_bytes Free 0 v.next))) ∙ next_there Free 0 v.next [] fits.next_fits)
 
 pub free_spells : (page : List ℕ) (v : FreePage) → FreeFits v → page ≡ free_image v → Spells free_image FreeFits page v
-free_spells page v fits e =
-    let front = front_bytes Free 0 v.next in
-    spells free_image FreeFits free_in free_back page v fits (length_padded 512 front (omega (arith, length_front Free 0 v.next))) (bytes_padded 512 front (bytes_front Free 0 v.next)) e
+free_spells page v fits e = spells free_image FreeFits free_in free_back page v fits (free_long v fits) (bytes_padded 512 (front_bytes Free 0 v.next) (bytes_front Free 0 v.next)) e
 
 -- record pages
 abbrev pub made_record : ℕ → List ℕ → RecordPage
@@ -154,10 +135,7 @@ record_back v fits =
 
 pub record_spells : (page : List ℕ) (v : RecordPage) → RecordFits v → page ≡ record_image v → Spells record_image RecordFits page v
 record_spells page v fits e =
-    let n = length v.postings in
-    let rest = flat_map (bytes_of 8) v.postings in
-    let few = fits.at_most_60_postings in
-    spells record_image RecordFits record_in record_back page v fits (length_page Record n v.next rest (omega (arith, length_postings v.postings))) (bytes_page Record n v.next rest (bytes_postings v.postings)) e
+    spells record_image RecordFits record_in record_back page v fits (record_long v fits) (bytes_page Record (length v.postings) v.next (flat_map (bytes_of 8) v.postings) (bytes_postings v.postings)) e
 
 -- the header
 abbrev pub made_header : (a b d e f g h : ℕ) → HeaderPage
@@ -200,7 +178,7 @@ header_spells page v fits e =
     let h2 = bytes_append (bytes_of 4 v.first_free) r3 (bytes_bytes_of 4 v.first_free) h3 in
     let h1 = bytes_append (bytes_of 4 v.root) r2 (bytes_bytes_of 4 v.root) h2 in
     let h0 = bytes_append (bytes_of 2 v.height) r1 (bytes_bytes_of 2 v.height) h1 in
-    spells header_image HeaderFits header_in header_back page v fits (length_padded 512 named (lit≤ tt)) (bytes_padded 512 named (lit< tt, (fits.kind_code_is_a_byte, h0))) e
+    spells header_image HeaderFits header_in header_back page v fits (header_long v fits) (bytes_padded 512 named (lit< tt, (fits.kind_code_is_a_byte, h0))) e
 
 -- rows
 abbrev pub made_row : List ℕ → ℕ → InnerRow
@@ -211,9 +189,6 @@ unfolding row_in
 row_back row fits =
     ap (λ (n : ℕ). made_row (part 4 24 (row_bytes row)) n) (number_there 4 0 row.child (row_bytes row) [] row.key refl refl fits.child_fits)
     ∙ ap (λ (key : List ℕ). made_row key row.child) (take_all 24 row.key (let l = fits.key_is_24_bytes in omega arith))
-
-length_row : (row : InnerRow) → RowFits row → length (row_bytes row) ≡ 28
-length_row row fits = let l = fits.key_is_24_bytes in length-append (bytes_of 4 row.child) row.key ∙ omega arith
 
 bytes_row : (row : InnerRow) → RowFits row → Bytes (row_bytes row)
 bytes_row row fits = bytes_append (bytes_of 4 row.child) row.key (bytes_bytes_of 4 row.child) fits.key_holds_bytes
@@ -249,11 +224,8 @@ inner_spells page v fits e =
     let n = length v.rows in
     let row0 = padded 28 (bytes_of 4 v.first) in
     let rows = flat_map row_bytes v.rows in
-    let few = fits.at_most_15_rows in
-    let long = length_joined 28 row_bytes v.rows (map_all RowFits (λ row. length (row_bytes row) ≡ 28) v.rows length_row fits.each_row_fits) in
-    let first = length_padded 28 (bytes_of 4 v.first) (lit≤ tt) in
     spells inner_image InnerFits inner_in inner_back page v fits
-    (length_page Inner (1 + n) 0 (row0 ++ rows) (omega (arith, length-append row0 rows)))
+    (inner_long v fits)
     (bytes_page Inner (1 + n) 0 (row0 ++ rows) (bytes_append row0 rows (bytes_padded 28 (bytes_of 4 v.first) (bytes_bytes_of 4 v.first)) (bytes_joined row_bytes v.rows (map_all RowFits (λ row. Bytes (row_bytes row)) v.rows bytes_row fits.each_row_fits))))
     e
 
@@ -267,13 +239,7 @@ grouped a b d e f = simp append_assoc
 last : (a b d e f : List ℕ) → a ++ (b ++ (d ++ (e ++ f))) ≡ (a ++ (b ++ (d ++ e))) ++ (f ++ [])
 last a b d e f = simp (append_assoc, append-nil)
 
-length_4 : (a b d e : List ℕ) → length (a ++ (b ++ (d ++ e))) ≡ length a + (length b + (length d + length e))
-length_4 a b d e = simp length-append
-
 module _ (e : LeafEntry) (fits : EntryFits e) where
-  long_inline : length (padded 24 (flat_map (bytes_of 8) e.inline)) ≡ 24
-  long_inline = length_padded 24 (flat_map (bytes_of 8) e.inline) (let few = fits.at_most_3_inline in omega (arith, length_postings e.inline))
-
   pub entry_back : entry_in (entry_bytes e) ≡ e
   unfolding entry_in padded
   entry_back =
@@ -287,8 +253,8 @@ module _ (e : LeafEntry) (fits : EntryFits e) where
       let h = bytes_of 4 e.head in
       let d = bytes_of 4 e.chained in
       let bytes = entry_bytes e in
-      let in52 : length (key ++ (b ++ (js ++ zs))) ≡ 52 = length_4 key b js zs ∙ (let l = long_inline in let m = length-append js zs in omega arith) in
-      let in56 : length (key ++ (b ++ ((js ++ zs) ++ h))) ≡ 56 = length_4 key b (js ++ zs) h ∙ (let l = long_inline in omega arith) in
+      let in52 : length (key ++ (b ++ (js ++ zs))) ≡ 52 = length_4 key b js zs ∙ (let l = long_inline e fits in let m = length-append js zs in omega arith) in
+      let in56 : length (key ++ (b ++ ((js ++ zs) ++ h))) ≡ 56 = length_4 key b (js ++ zs) h ∙ (let l = long_inline e fits in omega arith) in
       let counted : number_at 4 bytes 24 ≡ n = number_there 4 24 n bytes key ((js ++ zs) ++ (h ++ d)) refl k (omega arith) in
       let most : min n 3 ≡ n = omega arith in
       let behind : drop 28 bytes ≡ js ++ (zs ++ (h ++ d)) =
@@ -306,12 +272,6 @@ module _ (e : LeafEntry) (fits : EntryFits e) where
       ∙ ap (λ (x : List ℕ). made_entry key x (number_at 4 bytes 52) (number_at 4 bytes 56)) inline
       ∙ ap (λ (m : ℕ). made_entry key e.inline m (number_at 4 bytes 56)) head
       ∙ ap (λ (m : ℕ). made_entry key e.inline e.head m) chained
-
-  pub length_entry : length (entry_bytes e) ≡ 60
-  length_entry =
-      let k = fits.key_is_24_bytes in
-      let l = long_inline in
-      length_4 e.key (bytes_of 4 (length e.inline)) (padded 24 (flat_map (bytes_of 8) e.inline)) (bytes_of 4 e.head ++ bytes_of 4 e.chained) ∙ omega arith
 
   pub bytes_entry : Bytes (entry_bytes e)
   bytes_entry =
@@ -339,6 +299,4 @@ pub leaf_spells : (page : List ℕ) (v : LeafPage) → LeafFits v → page ≡ l
 leaf_spells page v fits e =
     let n = length v.entries in
     let rest = flat_map entry_bytes v.entries in
-    let few = fits.at_most_8_entries in
-    let long = length_joined 60 entry_bytes v.entries (map_all EntryFits (λ x. length (entry_bytes x) ≡ 60) v.entries length_entry fits.each_entry_fits) in
-    spells leaf_image LeafFits leaf_in leaf_back page v fits (length_page Leaf n v.next rest (omega arith)) (bytes_page Leaf n v.next rest (bytes_joined entry_bytes v.entries (map_all EntryFits (λ x. Bytes (entry_bytes x)) v.entries bytes_entry fits.each_entry_fits))) e
+    spells leaf_image LeafFits leaf_in leaf_back page v fits (leaf_long v fits) (bytes_page Leaf n v.next rest (bytes_joined entry_bytes v.entries (map_all EntryFits (λ x. Bytes (entry_bytes x)) v.entries bytes_entry fits.each_entry_fits))) e

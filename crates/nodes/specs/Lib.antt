@@ -3,3 +3,4 @@ pub mod Layout
 pub mod Readings
 pub mod Meanings
 pub mod Codec
+pub mod PageLaws

@@ -1,5 +1,5 @@
--- The value that each struct of the code means: of an array, as many elements as its count says.
-use Rattle.std.specs.Prelude.{ℕ, List, map, take}
+-- The value that each struct of the code means.
+use Rattle.std.specs.Prelude.{ℕ, map}
 use Rattle.nodes.specs.declared.header.Header.{Header}
 use Rattle.nodes.specs.declared.row.ChildRow.{ChildRow}
 use Rattle.nodes.specs.declared.inner.InnerNode.{InnerNode}
@@ -9,35 +9,32 @@ use Rattle.nodes.specs.declared.records.Record.{Record}
 use Rattle.nodes.specs.declared.free.Free.{Free}
 use Rattle.nodes.specs.Layout.{HeaderPage, InnerRow, InnerPage, LeafEntry, LeafPage, RecordPage, FreePage}
 
-abbrev pub header_with : (kind_code height root first_free free keys pages : ℕ) → HeaderPage
-header_with a b d e f g h = record { kind_code = a; height = b; root = d; first_free = e; free = f; keys = g; pages = h }
-
 abbrev pub header_of : Header → HeaderPage
-header_of x = header_with x.kind_code x.height x.root x.first_free x.free x.keys x.pages
+header_of x =
+    record {
+      kind_code = x.kind_code;
+      height = x.height;
+      root = x.root;
+      first_free = x.first_free;
+      free = x.free;
+      keys = x.keys;
+      pages = x.pages;
+    }
 
 abbrev pub row_of : ChildRow → InnerRow
 row_of x = record { key = x.key; child = x.child }
 
-abbrev pub inner_with : (first : ℕ) → List ChildRow → (count : ℕ) → InnerPage
-inner_with first rows count = record { first = first; rows = map row_of (take count rows) }
-
 abbrev pub inner_of : InnerNode → InnerPage
-inner_of x = inner_with x.first x.rows x.count
+inner_of x = record { first = x.first; rows = map row_of x.rows.items }
 
 abbrev pub entry_of : Entry → LeafEntry
-entry_of x = record { key = x.key; inline = take x.inline_count x.inline; head = x.head; chained = x.chained }
-
-abbrev pub leaf_with : (next : ℕ) → List Entry → (count : ℕ) → LeafPage
-leaf_with next entries count = record { next = next; entries = map entry_of (take count entries) }
+entry_of x = record { key = x.key; inline = x.inline.items; head = x.head; chained = x.chained }
 
 abbrev pub leaf_of : Leaf → LeafPage
-leaf_of x = leaf_with x.next x.entries x.count
-
-abbrev pub record_with : (next : ℕ) → List ℕ → (count : ℕ) → RecordPage
-record_with next postings count = record { next = next; postings = take count postings }
+leaf_of x = record { next = x.next; entries = map entry_of x.entries.items }
 
 abbrev pub record_of : Record → RecordPage
-record_of x = record_with x.next x.postings x.count
+record_of x = record { next = x.next; postings = x.postings.items }
 
 abbrev pub free_with : ℕ → FreePage
 free_with next = record { next = next }

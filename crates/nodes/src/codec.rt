@@ -3,5 +3,7 @@ mod free;
 mod header;
 mod inner;
 mod leaf;
+mod posting;
 mod records;
+mod row;
 mod sort;

@@ -7,6 +7,8 @@ pub mod free;
 pub mod header;
 pub mod inner;
 pub mod leaf;
+pub mod page;
+mod piece;
 mod places;
 pub mod records;
 pub mod row;

@@ -19,3 +19,6 @@ pub(crate) const ROW_SIZE: usize = 28;
 pub(crate) const ENTRY_SIZE: usize = 60;
 
 pub(crate) const POSTING_SIZE: usize = 8;
+
+// Where the inline postings of an entry begin.
+pub(crate) const INLINE_AT: usize = 28;

@@ -7,3 +7,7 @@ pub enum PageSort {
     Record,
     Free,
 }
+
+/// Why a number is no sort.
+#[derive(Clone, Copy, PartialEq, Eq, Debug)]
+pub struct UnknownSort;

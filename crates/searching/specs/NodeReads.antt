@@ -10,10 +10,6 @@ use Rattle.calls.specs.States.{ShowsDamage}
 abbrev pub Tells : Refusal → Answer Unit → Type 0
 Tells refusal answer = Refused (number_of refusal) (place_of refusal) ≡ answer
 
--- the bytes of a page, or the store's refusal
-abbrev pub PageRead : Meaning → (page : ℕ) → Result (List ℕ) Refusal → Type 0
-PageRead m page r = MatchResult r (λ bytes. page_at m page ≡ Live bytes) (λ refusal. Tells refusal (read_answer m page 512))
-
 -- the value that a page spells; else the store's refusal, or DAMAGED where the page spells none
 abbrev pub NodeRead : {V X : Type 0} → (image : V → List ℕ) → (Fits : V → Type 0) → (meaning : X → V) → Meaning → (page : ℕ) → Result X Refusal → Type 0
 NodeRead {V = V} image Fits meaning m page r =

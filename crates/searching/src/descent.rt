@@ -12,28 +12,26 @@ ghost use Rattle.searching.specs.NodeReads.{RefusesOnlyDamage};
 ghost use Rattle.searching.specs.Descents.{child_for, header_on, plausible, Arrives};
 
 use crate::arrival::Descent;
-use crate::reading::{read_header, read_inner, read_leaf};
+use crate::reading::read_node;
 use keys::{KeyKind, is_below};
 use nodes::header::Header;
 use nodes::inner::InnerNode;
-use nodes::leaf::Leaf;
 use page_store::PageStore;
 use refusals::Refusal;
 
 /// The most levels of a valid tree.
 const MOST_LEVELS: u16 = 6;
 
+// The page of the header.
+const HEADER: u32 = 0;
+
 // The child of the last row whose separator is not above the key, else the first child. Nothing where a key is unlawful.
 fn child_for<K: KeyKind>(node: &InnerNode, key: &[u8]) -> Option<u32>
-    ensures goes_by_the_separators { K.KeyKind.kind.lawful key.now ≡ true → AllByRecursion (λ (row : InnerRow). K.KeyKind.kind.lawful row.key ≡ true) (inner_of node.now).rows → result ≡ Some (child_for K.KeyKind.kind key.now (inner_of node.now).first (inner_of node.now).rows) }
+    ensures goes_by_the_separators { K.kind.lawful key.now ≡ true → AllByRecursion (λ (row : InnerRow). K.kind.lawful row.key ≡ true) (inner_of node.now).rows → result ≡ Some (child_for K.kind key.now (inner_of node.now).first (inner_of node.now).rows) }
 {
     let mut child = node.first;
-    for i in 0..node.count {
-        let row = node.rows[i];
-        let Some(is_above) = is_below::<K>(key, &row.key) else {
-            return None;
-        };
-        if is_above {
+    for row in node.rows.as_slice() {
+        if is_below::<K>(key, &row.key)? {
             return Some(child);
         }
         child = row.child;
@@ -43,39 +41,27 @@ fn child_for<K: KeyKind>(node: &InnerNode, key: &[u8]) -> Option<u32>
 
 // Whether a header can be that of a valid tree of the kind on so many pages.
 fn is_plausible<K: KeyKind>(header: &Header, count: u32) -> bool
-    ensures tells_what_can_be { result ≡ plausible K.KeyKind.kind count (header_of header.now) }
+    ensures tells_what_can_be { result ≡ plausible K.kind count (header_of header.now) }
 {
-    header.kind_code == K::kind_code()
+    header.kind_code == K::CODE
         && header.pages == count
-        && 1 <= header.height
-        && header.height <= MOST_LEVELS
+        && (1..=MOST_LEVELS).contains(&header.height)
 }
 
 // The header, if it is plausible.
 fn header_of<S: PageStore, K: KeyKind>(store: &mut S) -> Result<Header, Refusal>
-    ensures keeps_the_meaning { S.PageStore.meaning store.new ≡ S.PageStore.meaning store.old }
-    ensures pages_are_few { count_of (S.PageStore.meaning store.old) ≤ 65536 }
-    ensures is_the_header { (entries : Entries) (valid : Valid K.KeyKind.kind (S.PageStore.meaning store.old).pages entries) → MatchResult result (λ header. header_of header ≡ header_on valid) (λ _. ⊥) }
+    ensures keeps_the_meaning { S.meaning store.new ≡ S.meaning store.old }
+    ensures pages_are_few { count_of (S.meaning store.old) ≤ 65536 }
+    ensures is_the_header { (entries : Entries) (valid : Valid K.kind (S.meaning store.old).pages entries) → MatchResult result (λ header. header_of header ≡ header_on valid) (λ _. ⊥) }
     ensures refuses_only_damage { RefusesOnlyDamage result }
     ensures has_1_to_6_levels { IfOk result (λ header. (1 ≤ header.height) × (header.height ≤ 6)) }
 {
     let count = store.count();
-    let header = read_header(store)?;
+    let header = read_node(store, HEADER)?;
     if is_plausible::<K>(&header, count) {
         Ok(header)
     } else {
         Err(Refusal::Damaged)
-    }
-}
-
-// The leaf, read after so many inner nodes.
-fn arrived(leaf: Leaf, nodes_read: u32) -> Descent
-    requires { nodes_read < 6 }
-    ensures counts_the_leaf_too { result ≡ record { leaf = leaf; reads = nodes_read + 1 } }
-{
-    Descent {
-        leaf,
-        reads: nodes_read + 1,
     }
 }
 
@@ -87,32 +73,32 @@ fn way_down<S: PageStore, K: KeyKind>(
     key: &[u8],
 ) -> Result<Descent, Refusal>
     requires has_1_to_6_levels { (1 ≤ height) × (height ≤ 6) }
-    ensures keeps_the_meaning { S.PageStore.meaning store.new ≡ S.PageStore.meaning store.old }
+    ensures keeps_the_meaning { S.meaning store.new ≡ S.meaning store.old }
     ensures refuses_only_damage { RefusesOnlyDamage result }
     ensures reads_at_most_6_pages { IfOk result (λ d. d.reads ≤ 6) }
-    ensures arrives { (entries : Entries) (valid : Valid K.KeyKind.kind (S.PageStore.meaning store.old).pages entries) → count_of (S.PageStore.meaning store.old) ≤ 65536 → root ≡ root_of valid.levels valid.tree → height ≡ suc valid.levels → K.KeyKind.kind.lawful key.now ≡ true → MatchResult result (Arrives valid key.now) (λ _. ⊥) }
+    ensures arrives { (entries : Entries) (valid : Valid K.kind (S.meaning store.old).pages entries) → count_of (S.meaning store.old) ≤ 65536 → root ≡ root_of valid.levels valid.tree → height ≡ suc valid.levels → K.kind.lawful key.now ≡ true → MatchResult result (Arrives valid key.now) (λ _. ⊥) }
 {
     let mut page = root;
     let mut reads = 0;
     for _level in 1..height {
-        let node = read_inner(store, page)?;
+        let node: InnerNode = read_node(store, page)?;
         reads += 1;
-        let Some(child) = child_for::<K>(&node, key) else {
-            return Err(Refusal::Damaged);
-        };
-        page = child;
+        page = child_for::<K>(&node, key).ok_or(Refusal::Damaged)?;
     }
-    let leaf = read_leaf(store, page)?;
-    Ok(arrived(leaf, reads))
+    let leaf = read_node(store, page)?;
+    Ok(Descent {
+        leaf,
+        reads: reads + 1,
+    })
 }
 
 /// Goes down to the leaf that has the key if any leaf has it, reading a page on each level. DAMAGED where the pages cannot be a valid tree.
 pub fn descend<S: PageStore, K: KeyKind>(store: &mut S, key: &[u8]) -> Result<Descent, Refusal>
-    ensures keeps_the_meaning { S.PageStore.meaning store.new ≡ S.PageStore.meaning store.old }
-    ensures pages_are_few { count_of (S.PageStore.meaning store.old) ≤ 65536 }
+    ensures keeps_the_meaning { S.meaning store.new ≡ S.meaning store.old }
+    ensures pages_are_few { count_of (S.meaning store.old) ≤ 65536 }
     ensures refuses_only_damage { RefusesOnlyDamage result }
     ensures reads_at_most_6_pages { IfOk result (λ d. d.reads ≤ 6) }
-    ensures arrives_at_the_leaf_of_the_key { (entries : Entries) (valid : Valid K.KeyKind.kind (S.PageStore.meaning store.old).pages entries) → K.KeyKind.kind.lawful key.now ≡ true → MatchResult result (Arrives valid key.now) (λ _. ⊥) }
+    ensures arrives_at_the_leaf_of_the_key { (entries : Entries) (valid : Valid K.kind (S.meaning store.old).pages entries) → K.kind.lawful key.now ≡ true → MatchResult result (Arrives valid key.now) (λ _. ⊥) }
 {
     let header = header_of::<S, K>(store)?;
     way_down::<S, K>(store, header.root, header.height, key)

@@ -7,4 +7,4 @@ mod reading;
 
 pub use arrival::Descent;
 pub use descent::descend;
-pub use reading::{read_header, read_inner, read_leaf, read_record};
+pub use reading::read_node;

@@ -1,6 +1,0 @@
-use Rattle.std.proofs.Common.{refl}
-use Rattle.calls.proofs.Joining.{judged_then_taken}
-use Rattle.calls.proofs.proved.judged_then_taken.Goals as goal
-
-pub returns : goal.returns
-returns c = record { is_true = refl; judged_then_taken_is_merged = judged_then_taken }

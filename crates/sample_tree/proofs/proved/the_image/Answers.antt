@@ -1,6 +1,0 @@
-use Rattle.std.proofs.Common.{refl}
-use Rattle.sample_tree.proofs.Pictured.{image_is_valid}
-use Rattle.sample_tree.proofs.proved.the_image.Goals as goal
-
-pub returns : goal.returns
-returns c = record { is_true = refl; the_image_is_valid = image_is_valid }

@@ -1,6 +1,0 @@
-use Rattle.std.proofs.Common.{refl}
-use Rattle.tree.proofs.Emptiness.{empty_is_one_leaf}
-use Rattle.tree.proofs.proved.empty_trees.Goals as goal
-
-pub returns : goal.returns
-returns c = record { is_true = refl; are_one_leaf = empty_is_one_leaf }

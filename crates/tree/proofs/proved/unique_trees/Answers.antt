@@ -1,6 +1,0 @@
-use Rattle.std.proofs.Common.{refl}
-use Rattle.tree.proofs.Uniqueness.{entries_are_unique, pages_hold_one_tree}
-use Rattle.tree.proofs.proved.unique_trees.Goals as goal
-
-pub returns : goal.returns
-returns c = record { is_true = refl; entries_are_unique = entries_are_unique; pages_hold_one_tree = pages_hold_one_tree }
