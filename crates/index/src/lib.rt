@@ -4,11 +4,11 @@
 ghost use Rattle.std.specs.Prelude.{◌≡◌, true, false, []};
 ghost use Rattle.refusals.specs.Refusals.{answer_of, Accepted};
 ghost use Rattle.calls.specs.declared.answers.Looked.{Looked as LookedUp};
-ghost use Rattle.calls.specs.States.{state_of};
 ghost use Rattle.calls.specs.Making.{Makes};
 ghost use Rattle.calls.specs.Lookups.{Looks};
 ghost use Rattle.calls.specs.Settling.{Settles};
 ghost use Rattle.calls.specs.Standing.{AcceptedBatches, Standing, ShowsTheCounted};
+ghost use Rattle.index.specs.Indexes.{state_over};
 
 use calls::answers::Looked;
 use keys::KeyKind;
@@ -20,6 +20,7 @@ use std::marker::PhantomData;
 #[derive(Drop)]
 pub struct Index<S, K> {
     store: S,
+    // Kept as a flag: calls on an index that is not open answer NOT OPEN, so both states have one type.
     open: bool,
     kind: PhantomData<K>,
 }
@@ -58,8 +59,8 @@ impl<S: PageStore, K: KeyKind> Index<S, K> {
 
     /// Writes an empty tree over whatever stands on the pages, and opens the index.
     pub fn make(&mut self) -> Result<(), Refusal>
-        ensures makes_an_empty_tree { Makes K.KeyKind.kind (state_of (S.PageStore.meaning self.old.store) self.old.«open» (S.PageStore.settled self.old.store)) (answer_of result) (state_of (S.PageStore.meaning self.new.store) self.new.«open» (S.PageStore.settled self.new.store)) }
-        ensures stands_for_no_batches_yet { answer_of result ≡ Accepted tt → Standing K.KeyKind.kind [] (state_of (S.PageStore.meaning self.new.store) self.new.«open» (S.PageStore.settled self.new.store)) }
+        ensures makes_an_empty_tree { Makes K.kind (state_over S.meaning S.settled self.old) (answer_of result) (state_over S.meaning S.settled self.new) }
+        ensures stands_for_no_batches_yet { answer_of result ≡ Accepted tt → Standing K.kind [] (state_over S.meaning S.settled self.new) }
     {
         making::make::<S, K>(&mut self.store)?;
         self.open = true;
@@ -68,9 +69,9 @@ impl<S: PageStore, K: KeyKind> Index<S, K> {
 
     /// Writes the first postings of a key into the list, as many as it has places.
     pub fn lookup(&mut self, key: &[u8], list: &mut [u64]) -> Result<Looked, Refusal>
-        ensures looks_up { Looks K.KeyKind.kind (state_of (S.PageStore.meaning self.old.store) self.old.«open» (S.PageStore.settled self.old.store)) key.now list.old (answer_of result) (state_of (S.PageStore.meaning self.new.store) self.new.«open» (S.PageStore.settled self.new.store)) list.new }
-        ensures shows_what_was_counted { (batches : AcceptedBatches) → Standing K.KeyKind.kind batches (state_of (S.PageStore.meaning self.old.store) self.old.«open» (S.PageStore.settled self.old.store)) → K.KeyKind.kind.lawful key.now ≡ true → (looked : LookedUp) × (answer_of result ≡ Accepted looked) × ShowsTheCounted K.KeyKind.kind batches key.now list.old looked list.new }
-        ensures carries_on_what_stands { (batches : AcceptedBatches) → Standing K.KeyKind.kind batches (state_of (S.PageStore.meaning self.old.store) self.old.«open» (S.PageStore.settled self.old.store)) → Standing K.KeyKind.kind batches (state_of (S.PageStore.meaning self.new.store) self.new.«open» (S.PageStore.settled self.new.store)) }
+        ensures looks_up { Looks K.kind (state_over S.meaning S.settled self.old) key.now list.old (answer_of result) (state_over S.meaning S.settled self.new) list.new }
+        ensures shows_what_was_counted { (batches : AcceptedBatches) → Standing K.kind batches (state_over S.meaning S.settled self.old) → K.kind.lawful key.now ≡ true → (looked : LookedUp) × (answer_of result ≡ Accepted looked) × ShowsTheCounted K.kind batches key.now list.old looked list.new }
+        ensures carries_on_what_stands { (batches : AcceptedBatches) → Standing K.kind batches (state_over S.meaning S.settled self.old) → Standing K.kind batches (state_over S.meaning S.settled self.new) }
     {
         if !self.open {
             return Err(Refusal::NotOpen);
@@ -80,8 +81,8 @@ impl<S: PageStore, K: KeyKind> Index<S, K> {
 
     /// Settles the store, open or not.
     pub fn settle(&mut self)
-        ensures settles_the_store { Settles (state_of (S.PageStore.meaning self.old.store) self.old.«open» (S.PageStore.settled self.old.store)) (state_of (S.PageStore.meaning self.new.store) self.new.«open» (S.PageStore.settled self.new.store)) }
-        ensures carries_on_what_stands { (batches : AcceptedBatches) → Standing K.KeyKind.kind batches (state_of (S.PageStore.meaning self.old.store) self.old.«open» (S.PageStore.settled self.old.store)) → Standing K.KeyKind.kind batches (state_of (S.PageStore.meaning self.new.store) self.new.«open» (S.PageStore.settled self.new.store)) }
+        ensures settles_the_store { Settles (state_over S.meaning S.settled self.old) (state_over S.meaning S.settled self.new) }
+        ensures carries_on_what_stands { (batches : AcceptedBatches) → Standing K.kind batches (state_over S.meaning S.settled self.old) → Standing K.kind batches (state_over S.meaning S.settled self.new) }
     {
         self.store.settle();
     }

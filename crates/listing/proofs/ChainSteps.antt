@@ -1,7 +1,7 @@
 -- The walk over a chain of records: what it keeps, and where it ends. Assumes nothing.
-use Rattle.std.proofs.Common.{◌≡◌, ℕ, suc, ◌+◌, ◌<◌, ◌≤◌, true, List, [], ◌∷◌, ◌++◌, length, take, Ok, Err, Result, sym, refl, ap, ◌∙◌, subst, append_assoc, append-nil, arith}
+use Rattle.std.proofs.Common.{◌≡◌, ℕ, suc, ◌+◌, ◌<◌, ◌≤◌, true, List, [], ◌∷◌, ◌++◌, length, Ok, Err, Result, sym, refl, ap, ◌∙◌, subst, append_assoc, append-nil, arith}
 use Rattle.std.specs.List.{flat_map}
-use Rattle.std.proofs.lemmas.List.{length-take-le}
+use Rattle.std.proofs.lemmas.List.Concat.{flat_map-append}
 use Rattle.refusals.specs.declared.Refusal.{Refusal}
 use Rattle.page_store.specs.Meanings.{Meaning, count_of}
 use Rattle.keys.specs.Kinds.{Field}
@@ -13,7 +13,6 @@ use Rattle.tree.specs.Trees.{RecordAt}
 use Rattle.tree.specs.Valid.{Pages, head_of}
 use Rattle.searching.specs.NodeReads.{NodeRead}
 use Rattle.searching.specs.Chains.{record_in, ChainFrom}
-use Rattle.tree.proofs.Rising.{joined_append}
 use Rattle.listing.specs.Filling.{rows_of, is_past, filled}
 use Rattle.listing.specs.Readable.{Stands, ReadableChain}
 use Rattle.listing.specs.Walks.{rows_in_chain, RowsPut}
@@ -33,8 +32,8 @@ pub record Along (pages : Pages) (key : Field) (records : List RecordAt) (at ski
 pub record ChainSoFar (pages : Pages) (key : Field) (head at skip : ℕ) (buffer : List ℕ) (step page next : ℕ) (now' : List ℕ) : Type 0 where
   pub along : (records : List RecordAt) → ReadableChain pages head records → Along pages key records at skip buffer step page next now'
 
-pub chain_start : (pages : Pages) (key : Field) (head at skip : ℕ) (buffer : List ℕ) → ChainSoFar pages key head at skip buffer 0 head at buffer
-chain_start pages key head at skip buffer =
+pub chain_start : {pages : Pages} {key : Field} {head at skip : ℕ} {buffer : List ℕ} → ChainSoFar pages key head at skip buffer 0 head at buffer
+chain_start {at = at} {skip = skip} {buffer = buffer} =
     record {
       along = λ records readable.
           record { passed = []; left = records; are_all = refl; left_start_there = readable.starts_there; left_end = let few = readable.fewer_than_pages in omega arith; passed_are_put = put_none at skip buffer };
@@ -42,10 +41,10 @@ chain_start pages key head at skip buffer =
 
 rows_chain : (key : Field) (a b : List RecordAt) → rows_in_chain key (a ++ b) ≡ rows_in_chain key a ++ rows_in_chain key b
 rows_chain key a b =
-    ap (rows_of key) (joined_append (λ (r : RecordAt). r.postings) a b) ∙ rows_append key (flat_map (λ (r : RecordAt). r.postings) a) (flat_map (λ (r : RecordAt). r.postings) b)
+    ap (rows_of key) (flat_map-append (λ (r : RecordAt). r.postings) a b) ∙ rows_append key (flat_map (λ (r : RecordAt). r.postings) a) (flat_map (λ (r : RecordAt). r.postings) b)
 
-module _ (m : Meaning) (key : Field) (head at skip : ℕ) (buffer : List ℕ) (step page next : ℕ) (now' : List ℕ) (sofar : ChainSoFar m.pages key head at skip buffer step page next now') where
-  module _ (records : List RecordAt) (readable : ReadableChain m.pages head records) where
+module _ (m : Meaning) {key : Field} {head at skip : ℕ} {buffer : List ℕ} {step page next : ℕ} {now' : List ℕ} (sofar : ChainSoFar m.pages key head at skip buffer step page next now') where
+  module _ {records : List RecordAt} (readable : ReadableChain m.pages head records) where
     here : Along m.pages key records at skip buffer step page next now'
     here = sofar.along records readable
 
@@ -89,19 +88,17 @@ module _ (m : Meaning) (key : Field) (head at skip : ℕ) (buffer : List ℕ) (s
       there : First here.left
       there = first_left here.left here.left_start_there some
 
-      pub record_is_read : (refusal : Refusal) (r : Result Record Refusal) → NodeRead record_image RecordFits record_of m page r → r ≡ Err refusal → ⊥
-      record_is_read refusal r read e = read_is_ok record_image RecordFits record_of m page (record_in there.first there.rest) there.stands refusal r read e
+      pub record_is_read : {refusal : Refusal} {r : Result Record Refusal} → NodeRead record_image RecordFits record_of m page r → r ≡ Err refusal → ⊥
+      record_is_read {refusal = refusal} {r = r} read e = read_is_ok record_image RecordFits record_of m page (record_in there.first there.rest) there.stands refusal r read e
 
       along_more : (x : Record) (r : Result Record Refusal) → NodeRead record_image RecordFits record_of m page r → r ≡ Ok x
-          → (after : List ℕ) → after ≡ filled skip next (rows_of key (take x.count x.postings)) now'
-          → Along m.pages key records at skip buffer (step + 1) x.next (next + x.count) after
-      along_more x r read e after put =
+          → (postings : List ℕ) → postings ≡ x.postings.items → (after : List ℕ) → after ≡ filled skip next (rows_of key postings) now'
+          → Along m.pages key records at skip buffer (step + 1) x.next (next + length postings) after
+      along_more x r read e postings same after put =
           let is : record_of x ≡ record_in there.first there.rest = read_is record_image RecordFits record_of m page (record_in there.first there.rest) there.stands x r read e in
-          let postings : take x.count x.postings ≡ there.first.postings = ap (λ (p : RecordPage). p.postings) is in
-          let more : List RecordAt = there.first ∷ [] in
-          let count : x.count ≡ length (take x.count x.postings) = sym (length-take-le x.count x.postings (omega arith)) in
-          let rows : rows_of key (take x.count x.postings) ≡ rows_in_chain key (there.first ∷ []) = ap (rows_of key) (postings ∙ sym (append-nil there.first.postings)) in
-          let long : length (rows_in_chain key (there.first ∷ [])) ≡ x.count = ap length (sym rows) ∙ length_rows key (take x.count x.postings) ∙ sym count in
+          let held : postings ≡ there.first.postings = same ∙ ap (λ (p : RecordPage). p.postings) is in
+          let rows : rows_of key postings ≡ rows_in_chain key (there.first ∷ []) = ap (rows_of key) (held ∙ sym (append-nil there.first.postings)) in
+          let long : length (rows_in_chain key (there.first ∷ [])) ≡ length postings = ap length (sym rows) ∙ length_rows key postings in
           let size : length here.left ≡ suc (length there.rest) = ap length there.is_it in
           let few = here.left_end in
           record {
@@ -111,8 +108,8 @@ module _ (m : Meaning) (key : Field) (head at skip : ℕ) (buffer : List ℕ) (s
             left_start_there = subst (λ (n : ℕ). ChainFrom m.pages n there.rest) (sym (ap (λ (p : RecordPage). p.next) is)) there.rest_start_there;
             left_end = omega arith;
             passed_are_put =
-                subst (λ (rows : List Listed). RowsPut rows at skip buffer (next + x.count) after) (sym (rows_chain key here.passed (there.first ∷ [])))
-                (put_on (rows_in_chain key here.passed) (rows_in_chain key (there.first ∷ [])) at skip buffer next now' (next + x.count) after here.passed_are_put
+                subst (λ (rows : List Listed). RowsPut rows at skip buffer (next + length postings) after) (sym (rows_chain key here.passed (there.first ∷ [])))
+                (put_on (rows_in_chain key here.passed) (rows_in_chain key (there.first ∷ [])) at skip buffer next now' (next + length postings) after here.passed_are_put
                 (record { counts_them = omega arith; fills_the_buffer = put ∙ ap (λ (rows : List Listed). filled skip next rows now') rows }));
           }
 
@@ -120,7 +117,7 @@ module _ (m : Meaning) (key : Field) (head at skip : ℕ) (buffer : List ℕ) (s
     pub chain_never_so_long : count_of m ≤ step → ⊥
     chain_never_so_long past = let few = here.left_end in omega arith
 
-  pub chain_more : (page ≡ 0 → ⊥) → (x : Record) (r : Result Record Refusal) → NodeRead record_image RecordFits record_of m page r → r ≡ Ok x
-      → (after : List ℕ) → after ≡ filled skip next (rows_of key (take x.count x.postings)) now'
-      → ChainSoFar m.pages key head at skip buffer (step + 1) x.next (next + x.count) after
-  chain_more some x r read e after put = record { along = λ records readable. along_more records readable some x r read e after put }
+  pub chain_more : (page ≡ 0 → ⊥) → {x : Record} {r : Result Record Refusal} → NodeRead record_image RecordFits record_of m page r → r ≡ Ok x
+      → {postings : List ℕ} → postings ≡ x.postings.items → {after : List ℕ} → after ≡ filled skip next (rows_of key postings) now'
+      → ChainSoFar m.pages key head at skip buffer (step + 1) x.next (next + length postings) after
+  chain_more some {x = x} {r = r} read e {postings = postings} same {after = after} put = record { along = λ records readable. along_more readable some x r read e postings same after put }

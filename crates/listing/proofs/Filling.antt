@@ -31,6 +31,10 @@ length_put skip at row buffer = go (leb skip at)
     go true = length_written buffer (listed_bytes row) (32 * (at - skip))
     go false = refl
 
+pub length_filled : (skip at : ℕ) (rows : List Listed) (buffer : List ℕ) → length (filled skip at rows buffer) ≡ length buffer
+length_filled skip at [] buffer = refl
+length_filled skip at (row ∷ rows) buffer = length_filled skip (at + 1) rows (row_put skip at row buffer) ∙ length_put skip at row buffer
+
 -- a row that is skipped, or past the end
 pub put_skipped : (skip at : ℕ) (row : Listed) (buffer : List ℕ) → at < skip → row_put skip at row buffer ≡ buffer
 unfolding row_put
@@ -141,28 +145,25 @@ pub put_not_shown : (skip at : ℕ) (row : Listed) (buffer : List ℕ) → Whole
 put_not_shown skip at row buffer whole e =
     ⊎_elim (λ h. put_skipped skip at row buffer (leb-false skip at h)) (λ h. put_past skip at row buffer whole (ltb-false (at - skip) (length buffer / 32) h)) (and_cases (leb skip at) (ltb (at - skip) (length buffer / 32)) e)
 
-pub put_shown : (skip at : ℕ) (key : Field) (posting place : ℕ) (buffer spelled one two : List ℕ) → length key ≡ 24 → is_shown skip (length buffer) at ≡ true → place ≡ (at - skip) * 32
-    → spelled ≡ bytes_of 8 posting → one ≡ written buffer place key → two ≡ written one (place + 24) spelled → two ≡ row_put skip at (record { key = key; posting = posting }) buffer
-put_shown skip at key posting place buffer spelled one two long shown is bytes first second =
+pub put_shown : (skip at : ℕ) (key : Field) (posting place : ℕ) (buffer one two : List ℕ) → length key ≡ 24 → is_shown skip (length buffer) at ≡ true → place ≡ (at - skip) * 32
+    → one ≡ written buffer place key → two ≡ written one (place + 24) (bytes_of 8 posting) → two ≡ row_put skip at (record { key = key; posting = posting }) buffer
+put_shown skip at key posting place buffer one two long shown is first second =
     let parts = and_parts (leb skip at) (ltb (at - skip) (length buffer / 32)) shown in
     let from = leb-true skip at parts.0 in
     let room = ltb-true (at - skip) (length buffer / 32) parts.1 in
     let same : place ≡ 32 * (at - skip) = omega arith in
     let eight = length_bytes_of 8 posting in
-    second ∙ ap (written one (place + 24)) bytes ∙ ap (λ (xs : List ℕ). written xs (place + 24) (bytes_of 8 posting)) first
+    second ∙ ap (λ (xs : List ℕ). written xs (place + 24) (bytes_of 8 posting)) first
     ∙ written_twice buffer key (bytes_of 8 posting) place (place + 24) (omega arith) (omega arith)
     ∙ ap (λ (n : ℕ). written buffer n (key ++ bytes_of 8 posting)) same
     ∙ sym (put_there skip at (record { key = key; posting = posting }) buffer from)
 
 -- and one more of the rows of a key
-pub put_more : (skip at i : ℕ) (key : Field) (postings : List ℕ) (posting : ℕ) (buffer before after : List ℕ) → i < length postings → posting ≡ get_or postings i 0
-    → before ≡ filled skip at (rows_of key (take i postings)) buffer → after ≡ row_put skip (at + i) (record { key = key; posting = posting }) before → after ≡ filled skip at (rows_of key (take (i + 1) postings)) buffer
-put_more skip at i key postings posting buffer before after h is so_far put =
+pub put_more : (skip at i : ℕ) (key : Field) (postings buffer : List ℕ) → i < length postings
+    → row_put skip (at + i) (record { key = key; posting = get_or postings i 0 }) (filled skip at (rows_of key (take i postings)) buffer) ≡ filled skip at (rows_of key (take (i + 1) postings)) buffer
+put_more skip at i key postings buffer h =
     let row : ℕ → Listed = λ (p : ℕ). record { key = key; posting = p } in
     let count : length (rows_of key (take i postings)) ≡ i = length-map (take i postings) row ∙ length-take-le i postings (omega arith) in
-    put
-    ∙ ap (λ (p : ℕ). row_put skip (at + i) (record { key = key; posting = p }) before) is
-    ∙ ap (row_put skip (at + i) (row (get_or postings i 0))) so_far
-    ∙ ap (λ (n : ℕ). row_put skip (at + n) (row (get_or postings i 0)) (filled skip at (rows_of key (take i postings)) buffer)) (sym count)
+    ap (λ (n : ℕ). row_put skip (at + n) (row (get_or postings i 0)) (filled skip at (rows_of key (take i postings)) buffer)) (sym count)
     ∙ sym (filled_append skip at (rows_of key (take i postings)) (row (get_or postings i 0) ∷ []) buffer)
     ∙ ap (λ (rows : List Listed). filled skip at rows buffer) (sym (map_more row postings i 0 h))

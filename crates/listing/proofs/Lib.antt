@@ -1,6 +1,7 @@
 pub mod Overwriting
 pub mod Filling
 pub mod Putting
+pub mod Windows
 pub mod ReadStanding
 pub mod ChainSteps
 pub mod EntrySteps
@@ -9,3 +10,4 @@ pub mod LeafSteps
 pub mod LeavesSteps
 pub mod TreeLeaves
 pub mod Whole
+pub mod Told

@@ -9,7 +9,8 @@ use Rattle.tree.specs.Valid.{Pages, head_of, SpellChain, Rise, Linked, Valid}
 use Rattle.tree.proofs.Everywhere.{all_back, all_parts}
 use Rattle.tree.proofs.Fitting.{ChainFits, Linkable, node_pages_linkable, leaves_among_nodes, fewer_than_pages}
 use Rattle.tree.proofs.Highest.{leaves_have_pages}
-use Rattle.tree.proofs.Rising.{keys_rise, joined_append}
+use Rattle.std.proofs.lemmas.List.Concat.{flat_map-append}
+use Rattle.tree.proofs.Rising.{keys_rise}
 use Rattle.searching.proofs.Leaves.{LeafWhole, leaves_whole}
 use Rattle.searching.proofs.Chained.{chain_from, chains_linkable, chains_short}
 use Rattle.listing.specs.Readable.{ReadableChain, ReadableLeaf, ReadableLeaves}
@@ -45,7 +46,7 @@ linked_back (leaf ∷ a) b linked = linked_back a b linked.1
 back_readable : (kind : Kind) (pages : Pages) (left right : List Leaf) → ReadableLeaves kind pages (left ++ right) → ReadableLeaves kind pages right
 back_readable kind pages left right all =
     let entries : Leaf → List EntryAt = λ (leaf : Leaf). leaf.entries in
-    let apart : Rise kind None (keys_at (flat_map (λ (leaf : Leaf). leaf.entries) left ++ flat_map (λ (leaf : Leaf). leaf.entries) right)) = subst (λ (es : List EntryAt). Rise kind None (keys_at es)) (joined_append entries left right) all.keys_rise in
+    let apart : Rise kind None (keys_at (flat_map (λ (leaf : Leaf). leaf.entries) left ++ flat_map (λ (leaf : Leaf). leaf.entries) right)) = subst (λ (es : List EntryAt). Rise kind None (keys_at es)) (flat_map-append entries left right) all.keys_rise in
     let few = all.no_more_than_pages in
     record {
       each_is_readable = all_back (ReadableLeaf pages) left right all.each_is_readable;

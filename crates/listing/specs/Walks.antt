@@ -1,13 +1,14 @@
 -- What a walk over the tree leaves in the buffer and answers: over a chain, an entry, a leaf, and leaves side by side.
-use Rattle.std.specs.Prelude.{◌≡◌, ℕ, ◌+◌, Bool, true, cond, ◌||◌, List, [], ◌∷◌, ◌++◌, map, length, Some, None, Option, Result, MatchResult, ◌==◌}
+use Rattle.std.specs.Prelude.{◌≡◌, ℕ, ◌+◌, cond, List, [], ◌∷◌, ◌++◌, map, length, None, Result, MatchResult}
 use Rattle.std.specs.List.{flat_map}
+use Rattle.std.specs.declared.ops.ControlFlow.{ControlFlow}
+use Rattle.std.specs.declared.ops.ControlFlow.TheVariants.{Continue, Break}
 use Rattle.refusals.specs.declared.Refusal.{Refusal}
 use Rattle.keys.specs.Kinds.{Kind, Field}
 use Rattle.nodes.specs.Layout.{LeafEntry, LeafPage}
 use Rattle.book.specs.Looking.{Listed, within}
 use Rattle.tree.specs.Trees.{RecordAt, EntryAt, Leaf}
 use Rattle.tree.specs.Valid.{Pages, head_of, entry_in, Rise, postings_at}
-use Rattle.listing.specs.declared.progress.Progress.{Progress}
 use Rattle.listing.specs.Filling.{rows_of, filled}
 use Rattle.listing.specs.Readable.{leaf_page, ReadableChain, ReadableLeaf, ReadableLeaves}
 
@@ -41,20 +42,21 @@ pub record RowsPut (rows : List Listed) (at skip : ℕ) (buffer : List ℕ) (nex
 pub record EntryWalked (pages : Pages) (page : LeafEntry) (at skip : ℕ) (buffer : List ℕ) (answer : Result ℕ Refusal) (after : List ℕ) : Type 0 where
   pub puts_its_rows : (entry : EntryAt) → page ≡ entry_in entry → ReadableChain pages (head_of entry.records) entry.records → MatchResult answer (λ next. RowsPut (rows_at entry) at skip buffer next after) (λ _. ⊥)
 
--- a leaf: where the walk is done, no entry right of this leaf is listed
-pub record LeafPassed (kind : Kind) (first second : Field) (entries : List EntryAt) (at skip : ℕ) (buffer : List ℕ) (progress : Progress) (after : List ℕ) : Type 0 where
-  pub puts_its_rows : RowsPut (listed_at kind first second entries) at skip buffer progress.at after
-  pub done_past_the_second : progress.is_done ≡ true → (later : List EntryAt) → Rise kind None (map (λ (entry : EntryAt). entry.key) (entries ++ later)) → listed_at kind first second later ≡ []
+-- the row that comes next, whether the walk goes on or breaks off
+abbrev pub row_after : ControlFlow ℕ ℕ → ℕ
+row_after (Continue row) = row
+row_after (Break row) = row
 
-pub record LeafWalked (kind : Kind) (pages : Pages) (page : LeafPage) (first second : Field) (at skip : ℕ) (buffer : List ℕ) (answer : Result Progress Refusal) (after : List ℕ) : Type 0 where
-  pub passes_it : (leaf : Leaf) → page ≡ leaf_page leaf → ReadableLeaf pages leaf → Rise kind None (map (λ (entry : EntryAt). entry.key) leaf.entries) → kind.lawful first ≡ true → kind.lawful second ≡ true
-      → MatchResult answer (λ progress. LeafPassed kind first second leaf.entries at skip buffer progress after) (λ _. ⊥)
+-- a leaf: where the walk breaks off, no entry right of this leaf is listed
+pub record LeafPassed (kind : Kind) (first second : Field) (entries : List EntryAt) (at skip : ℕ) (buffer : List ℕ) (flow : ControlFlow ℕ ℕ) (after : List ℕ) : Type 0 where
+  pub puts_its_rows : RowsPut (listed_at kind first second entries) at skip buffer (row_after flow) after
+  pub breaks_past_the_second : (row : ℕ) → flow ≡ Break row → (later : List EntryAt) → Rise kind None (map (λ (entry : EntryAt). entry.key) (entries ++ later)) → listed_at kind first second later ≡ []
 
--- the page to walk on to: none where the walk is done, or no leaf is right of this one
-abbrev pub leaf_after : (is_done : Bool) → (next : ℕ) → Option ℕ
-leaf_after is_done next = cond (is_done || next == 0) None (Some next)
+pub record LeafWalked (kind : Kind) (pages : Pages) (page : LeafPage) (first second : Field) (at skip : ℕ) (buffer : List ℕ) (answer : Result (ControlFlow ℕ ℕ) Refusal) (after : List ℕ) : Type 0 where
+  pub passes_it : (leaf : Leaf) → page ≡ leaf_page leaf → ReadableLeaf pages leaf → Rise kind None (map (λ (entry : EntryAt). entry.key) leaf.entries)
+      → MatchResult answer (λ flow. LeafPassed kind first second leaf.entries at skip buffer flow after) (λ _. ⊥)
 
 -- leaves side by side, from the first of them on
 pub record LeavesWalked (kind : Kind) (pages : Pages) (page : LeafPage) (first second : Field) (skip : ℕ) (buffer : List ℕ) (answer : Result ℕ Refusal) (after : List ℕ) : Type 0 where
-  pub puts_their_rows : (leaf : Leaf) (right : List Leaf) → page ≡ leaf_page leaf → ReadableLeaves kind pages (leaf ∷ right) → kind.lawful first ≡ true → kind.lawful second ≡ true
+  pub puts_their_rows : (leaf : Leaf) (right : List Leaf) → page ≡ leaf_page leaf → ReadableLeaves kind pages (leaf ∷ right)
       → MatchResult answer (λ total. RowsPut (listed_at kind first second (flat_map (λ (l : Leaf). l.entries) (leaf ∷ right))) 0 skip buffer total after) (λ _. ⊥)

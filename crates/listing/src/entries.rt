@@ -1,42 +1,43 @@
 //! The rows of an entry: of its inline postings, and of its chain of records.
 
-ghost use Rattle.std.specs.Prelude.{◌≡◌, ◌+◌, ◌^◌, ◌≤◌, length, IfOk};
+ghost use Rattle.std.specs.Prelude.{◌≡◌, ◌+◌, ◌^◌, ◌≤◌, IfOk};
 ghost use Rattle.nodes.specs.Meanings.{entry_of};
+ghost use Rattle.listing.specs.Windows.{Stays};
 ghost use Rattle.listing.specs.Walks.{most_in_entry, ChainWalked, EntryWalked};
 
-use crate::rows::{is_any_shown, is_past, put_rows};
+use crate::rows::Window;
 use nodes::entry::Entry;
+use nodes::records::Record;
+use nodes::sizes::KEY_SIZE;
 use page_store::PageStore;
 use refusals::Refusal;
-use searching::read_record;
+use searching::read_node;
 
 // The rows of a chain, read no further than to the last row that is shown. A chain that goes on through as many records as pages is DAMAGED.
+// Apart from the walk of a lookup, with which it shares one read of a record page: it stops at the last row that is shown, and refuses a chain without an end.
 fn list_chain<S: PageStore>(
     store: &mut S,
-    key: &[u8],
+    key: &[u8; KEY_SIZE],
     head: u32,
     at: u64,
-    skip: u64,
-    buffer: &mut [u8],
+    window: &mut Window,
 ) -> Result<(), Refusal>
-    requires key_has_24_bytes { length key.now ≡ 24 }
     requires rows_can_be_counted { at ≤ 2 ^ 62 }
-    ensures keeps_the_meaning { S.PageStore.meaning store.new ≡ S.PageStore.meaning store.old }
-    ensures walks_the_chain { ChainWalked (S.PageStore.meaning store.old).pages key.now head at skip buffer.old result buffer.new }
+    ensures keeps_the_meaning { S.meaning store.new ≡ S.meaning store.old }
+    ensures stays_over_the_buffer { Stays window.old window.new }
+    ensures walks_the_chain { ChainWalked (S.meaning store.old).pages key.now head at window.old.skip window.old.buffer.now result window.new.buffer.now }
 {
     let count = store.count();
     let mut page = head;
     let mut next = at;
     for _step in 0..count {
-        if page == 0 {
+        if page == 0 || window.is_past(next) {
             return Ok(());
         }
-        if is_past(next, skip, buffer.len()) {
-            return Ok(());
-        }
-        let record = read_record(store, page)?;
-        put_rows(key, &record.postings[..record.count], next, skip, buffer);
-        next += record.count as u64;
+        let record: Record = read_node(store, page)?;
+        let postings = record.postings.as_slice();
+        window.put_rows(key, postings, next);
+        next += postings.len() as u64;
         page = record.next;
     }
     Err(Refusal::Damaged)
@@ -47,26 +48,20 @@ pub(crate) fn list_entry<S: PageStore>(
     store: &mut S,
     entry: &Entry,
     at: u64,
-    skip: u64,
-    buffer: &mut [u8],
+    window: &mut Window,
 ) -> Result<u64, Refusal>
     requires rows_can_be_counted { at ≤ 2 ^ 61 }
-    ensures keeps_the_meaning { S.PageStore.meaning store.new ≡ S.PageStore.meaning store.old }
+    ensures keeps_the_meaning { S.meaning store.new ≡ S.meaning store.old }
+    ensures stays_over_the_buffer { Stays window.old window.new }
     ensures counts_few { IfOk result (λ next. next ≤ at + most_in_entry) }
-    ensures walks_the_entry { EntryWalked (S.PageStore.meaning store.old).pages (entry_of entry.now) at skip buffer.old result buffer.new }
+    ensures walks_the_entry { EntryWalked (S.meaning store.old).pages (entry_of entry.now) at window.old.skip window.old.buffer.now result window.new.buffer.now }
 {
-    put_rows(
-        &entry.key,
-        &entry.inline[..entry.inline_count],
-        at,
-        skip,
-        buffer,
-    );
-    let chain_start = at + entry.inline_count as u64;
+    let inline = entry.inline.as_slice();
+    window.put_rows(&entry.key, inline, at);
+    let chain_start = at + inline.len() as u64;
     let chain_end = chain_start + entry.chained as u64;
-    if !is_any_shown(chain_start, chain_end, skip, buffer.len()) {
-        return Ok(chain_end);
+    if window.shows_any(chain_start, chain_end) {
+        list_chain(store, &entry.key, entry.head, chain_start, window)?;
     }
-    list_chain(store, &entry.key, entry.head, chain_start, skip, buffer)?;
     Ok(chain_end)
 }

@@ -1,99 +1,74 @@
 //! The rows of the leaves that hold keys from one to another.
 
-ghost use Rattle.std.specs.Prelude.{◌≡◌, ◌+◌, ◌^◌, ◌≤◌, ◌&&◌, IfOk, if◌then◌else◌, Some, None};
-ghost use Rattle.keys.specs.Kinds.{below};
+ghost use Rattle.std.specs.Prelude.{◌≡◌, ◌+◌, ◌^◌, ◌≤◌, IfOk};
 ghost use Rattle.nodes.specs.Meanings.{leaf_of};
-ghost use Rattle.listing.specs.Walks.{most_in_leaf, LeafWalked, leaf_after, LeavesWalked};
+ghost use Rattle.listing.specs.Windows.{Stays};
+ghost use Rattle.listing.specs.Walks.{most_in_leaf, row_after, LeafWalked, LeavesWalked};
 
 use crate::entries::list_entry;
-use crate::progress::Progress;
-use keys::{KeyKind, is_below};
+use crate::range::KeyRange;
+use crate::rows::Window;
+use keys::{KeyKind, LawfulKey};
 use nodes::leaf::Leaf;
 use page_store::PageStore;
 use refusals::Refusal;
-use searching::read_leaf;
+use searching::read_node;
+use std::ops::ControlFlow;
 
-// Whether a key lies above the second key of a listing, which is included; nothing where one of them is unlawful.
-fn lies_past<K: KeyKind>(key: &[u8], second: &[u8]) -> Option<bool>
-    ensures is_above_it { result ≡ (if K.KeyKind.kind.lawful second.now && K.KeyKind.kind.lawful key.now then Some (below K.KeyKind.kind second.now key.now) else None) }
-{
-    is_below::<K>(second, key)
-}
-
-// The rows of a leaf, of which the first is row `at`: those of its keys from the first to the second. Done at a key above the second.
+// The rows of a leaf, of which the first is row `at`: those of the keys in the range. Answers the row after them, and breaks off at a key above the range.
 fn list_leaf<S: PageStore, K: KeyKind>(
     store: &mut S,
     leaf: &Leaf,
-    first: &[u8],
-    second: &[u8],
+    range: &KeyRange<K>,
     at: u64,
-    skip: u64,
-    buffer: &mut [u8],
-) -> Result<Progress, Refusal>
+    window: &mut Window,
+) -> Result<ControlFlow<u64, u64>, Refusal>
     requires rows_can_be_counted { at ≤ 2 ^ 60 }
-    ensures keeps_the_meaning { S.PageStore.meaning store.new ≡ S.PageStore.meaning store.old }
-    ensures counts_few { IfOk result (λ progress. progress.at ≤ at + most_in_leaf) }
-    ensures walks_the_leaf { LeafWalked K.KeyKind.kind (S.PageStore.meaning store.old).pages (leaf_of leaf.now) first.now second.now at skip buffer.old result buffer.new }
+    ensures keeps_the_meaning { S.meaning store.new ≡ S.meaning store.old }
+    ensures stays_over_the_buffer { Stays window.old window.new }
+    ensures counts_few { IfOk result (λ flow. row_after flow ≤ at + most_in_leaf) }
+    ensures walks_the_leaf { LeafWalked K.kind (S.meaning store.old).pages (leaf_of leaf.now) range.now.first.field.now range.now.second.field.now at window.old.skip window.old.buffer.now result window.new.buffer.now }
 {
     let mut next = at;
-    for i in 0..leaf.count {
-        let entry = leaf.entries[i];
-        let Some(is_before) = is_below::<K>(&entry.key, first) else {
+    for entry in leaf.entries.as_slice() {
+        let Some(key) = LawfulKey::<K>::check(&entry.key) else {
             return Err(Refusal::Damaged);
         };
-        if is_before {
+        if range.starts_after(&key) {
             continue;
         }
-        let Some(is_after) = lies_past::<K>(&entry.key, second) else {
-            return Err(Refusal::Damaged);
-        };
-        if is_after {
-            return Ok(Progress {
-                at: next,
-                is_done: true,
-            });
+        if range.ends_before(&key) {
+            return Ok(ControlFlow::Break(next));
         }
-        next = list_entry(store, &entry, next, skip, buffer)?;
+        next = list_entry(store, entry, next, window)?;
     }
-    Ok(Progress {
-        at: next,
-        is_done: false,
-    })
+    Ok(ControlFlow::Continue(next))
 }
 
-// The page of the leaf to walk on to, if the walk is not done and there is one.
-fn leaf_after(leaf: &Leaf, progress: Progress) -> Option<u32>
-    ensures is_the_leaf_right_of_it { result ≡ leaf_after progress.is_done leaf.now.next }
-{
-    if progress.is_done || leaf.next == 0 {
-        None
-    } else {
-        Some(leaf.next)
-    }
-}
-
-/// The rows of the leaves from one on, up to the first key above the second. Answers how many rows there are; leaves that go on past as many as pages are DAMAGED.
+/// The rows of the leaves from one on, up to the first key above the range. Answers how many rows there are; leaves that go on past as many as pages are DAMAGED.
 pub(crate) fn list_leaves<S: PageStore, K: KeyKind>(
     store: &mut S,
     start: Leaf,
-    first: &[u8],
-    second: &[u8],
-    skip: u64,
-    buffer: &mut [u8],
+    range: &KeyRange<K>,
+    window: &mut Window,
 ) -> Result<u64, Refusal>
-    ensures keeps_the_meaning { S.PageStore.meaning store.new ≡ S.PageStore.meaning store.old }
-    ensures walks_the_leaves { LeavesWalked K.KeyKind.kind (S.PageStore.meaning store.old).pages (leaf_of start) first.now second.now skip buffer.old result buffer.new }
+    ensures keeps_the_meaning { S.meaning store.new ≡ S.meaning store.old }
+    ensures stays_over_the_buffer { Stays window.old window.new }
+    ensures walks_the_leaves { LeavesWalked K.kind (S.meaning store.old).pages (leaf_of start) range.now.first.field.now range.now.second.field.now window.old.skip window.old.buffer.now result window.new.buffer.now }
 {
     let count = store.count();
     let mut leaf = start;
     let mut next = 0;
     for _step in 0..count {
-        let progress = list_leaf::<S, K>(store, &leaf, first, second, next, skip, buffer)?;
-        next = progress.at;
-        let Some(page) = leaf_after(&leaf, progress) else {
+        match list_leaf(store, &leaf, range, next, window)? {
+            ControlFlow::Break(total) => return Ok(total),
+            ControlFlow::Continue(row) => next = row,
+        }
+        let right = leaf.next;
+        if right == 0 {
             return Ok(next);
-        };
-        leaf = read_leaf(store, page)?;
+        }
+        leaf = read_node(store, right)?;
     }
     Err(Refusal::Damaged)
 }

@@ -7,26 +7,29 @@ ghost use Rattle.calls.specs.Listings.{ListsRows};
 
 use between::list_between;
 use calls::answers::RowsListed;
-use keys::KeyKind;
+use keys::{KeyKind, LawfulKey};
 use page_store::PageStore;
+use range::KeyRange;
 use refusals::Refusal;
+use rows::Window;
+use std::marker::PhantomData;
 
 mod between;
 mod entries;
 mod leaves;
-mod progress;
+mod range;
 mod rows;
 
 /// Writes a row for each posting of the keys from the first to the second, both included, past the rows to skip, as many as fit whole into the buffer.
-pub fn list<S: PageStore, K: KeyKind>(
+pub fn list<'k, S: PageStore, K: KeyKind>(
     store: &mut S,
-    first: &[u8],
-    second: &[u8],
+    first: &'k [u8],
+    second: &'k [u8],
     skip: u64,
     buffer: &mut [u8],
 ) -> Result<RowsListed, Refusal>
-    ensures keeps_the_meaning { S.PageStore.meaning store.new ≡ S.PageStore.meaning store.old }
-    ensures lists_the_rows { ListsRows K.KeyKind.kind (S.PageStore.meaning store.old).pages first.now second.now skip buffer.old (answer_of result) buffer.new }
+    ensures keeps_the_meaning { S.meaning store.new ≡ S.meaning store.old }
+    ensures lists_the_rows { ListsRows K.kind (S.meaning store.old).pages first.now second.now skip buffer.old (answer_of result) buffer.new }
 {
     let Some(low) = K::check(first) else {
         return Err(Refusal::Key(0));
@@ -34,5 +37,16 @@ pub fn list<S: PageStore, K: KeyKind>(
     let Some(high) = K::check(second) else {
         return Err(Refusal::Key(1));
     };
-    list_between::<S, K>(store, low, high, skip, buffer)
+    let range = KeyRange::<K> {
+        first: LawfulKey {
+            field: low,
+            kind: PhantomData,
+        },
+        second: LawfulKey {
+            field: high,
+            kind: PhantomData,
+        },
+    };
+    let mut window = Window { skip, buffer };
+    list_between(store, &range, &mut window)
 }

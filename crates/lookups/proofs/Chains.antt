@@ -1,7 +1,5 @@
 -- The walk along a chain. Assumes nothing.
-use Rattle.std.proofs.Common.{◌≡◌, ℕ, ◌+◌, ◌<◌, ◌≤◌, Bool, true, false, ◌&&◌, ltb, ◌⊎◌, List, [], ◌∷◌, length, take, Ok, Err, Result, sym, ap, ◌∙◌, subst, inl, inr, arith, length-append}
-use Rattle.std.proofs.lemmas.List.{length-take-le}
-use Rattle.std.proofs.lemmas.Bool.{and_parts, and_from, ltb-true, lt-ltb, cases_lt}
+use Rattle.std.proofs.Common.{◌≡◌, ℕ, ◌+◌, ◌≤◌, ◌⊎◌, List, [], ◌∷◌, length, Ok, Err, Result, sym, ap, ◌∙◌, subst, inl, inr, arith, length-append}
 use Rattle.refusals.specs.declared.Refusal.{Refusal}
 use Rattle.page_store.specs.Meanings.{Meaning}
 use Rattle.nodes.specs.declared.records.Record.{Record}
@@ -16,20 +14,6 @@ use Rattle.lookups.specs.declared.pouring.ChainEnd.{ChainEnd}
 use Rattle.lookups.specs.Pouring.{poured, postings_in, ChainPoured}
 use Rattle.lookups.proofs.Pourings.{poured_append}
 
--- whether a record is left to read
-pub left_to_read : (page records count : ℕ) (b : Bool) → b ≡ (ltb 0 page && ltb records count) → b ≡ true → (1 ≤ page) × (records < count)
-left_to_read page records count b is e =
-    let both = and_parts (ltb 0 page) (ltb records count) (sym is ∙ e) in
-    (ltb-true 0 page both.0, ltb-true records count both.1)
-
-pub none_to_read : (page records count : ℕ) (b : Bool) → b ≡ (ltb 0 page && ltb records count) → b ≡ false → (page ≡ 0) ⊎ (count ≤ records)
-none_to_read page records count b is e = go (cases_lt 0 page) (cases_lt records count)
-  where
-    go : (0 < page) ⊎ (page ≤ 0) → (records < count) ⊎ (count ≤ records) → (page ≡ 0) ⊎ (count ≤ records)
-    go (inr none) r = inl (omega arith)
-    go (inl some) (inr all) = inr all
-    go (inl some) (inl left) = let yes' = and_from (ltb 0 page) (ltb records count) (lt-ltb 0 page some) (lt-ltb records count left) in let z : ◌≡◌ {A = ℕ} 0 1 = cc in absurd (omega arith)
-
 -- what is left of a chain, poured from here, gives what the whole chain gives from the start
 pub record Left (m : Meaning) (records : List RecordAt) (place : ℕ) (list : List ℕ) (count page : ℕ) (end : ChainEnd) (now : List ℕ) : Type 0 where
   pub left : List RecordAt
@@ -41,37 +25,30 @@ pub record Left (m : Meaning) (records : List RecordAt) (place : ℕ) (list : Li
 pub record Pouring (m : Meaning) (head place : ℕ) (list : List ℕ) (count page : ℕ) (end : ChainEnd) (now : List ℕ) : Type 0 where
   pub goes : (records : List RecordAt) → ChainFrom m.pages head records → length records ≤ count → Left m records place list count page end now
 
-pub pouring_start : (m : Meaning) (head place : ℕ) (list : List ℕ) (count : ℕ) (end : ChainEnd) → end.records ≡ 0 → end.place ≡ place → Pouring m head place list count head end list
-pouring_start m head place list count end none here =
-    record {
-      goes = λ records chain few.
-          record { left = records; is_chained = chain; counted = omega (arith, none); placed = ap (λ (n : ℕ). n + length (postings_in records)) here; written = ap (λ (n : ℕ). poured n (postings_in records) list) here };
-    }
-
-module _ (m : Meaning) (records : List RecordAt) (place : ℕ) (list : List ℕ) (count page : ℕ) (end : ChainEnd) (now : List ℕ) where
+module _ (m : Meaning) {records : List RecordAt} {place : ℕ} {list : List ℕ} {count page : ℕ} {end : ChainEnd} {now : List ℕ} where
   -- a page that is not 0 has a record
-  pub record_is_read : (1 ≤ page) → (refusal : Refusal) (r : Result Record Refusal) → NodeRead record_image RecordFits record_of m page r → r ≡ Err refusal → Left m records place list count page end now → ⊥
-  record_is_read some refusal r read e left = go left.left left.is_chained r read e
+  pub record_is_read : (1 ≤ page) → {refusal : Refusal} {r : Result Record Refusal} → NodeRead record_image RecordFits record_of m page r → r ≡ Err refusal → Left m records place list count page end now → ⊥
+  record_is_read some {refusal = refusal} {r = r} read e left = go left.left left.is_chained r read e
     where
       go : (rs : List RecordAt) → ChainFrom m.pages page rs → (r : Result Record Refusal) → NodeRead record_image RecordFits record_of m page r → r ≡ Err refusal → ⊥
       go [] chain r read e = omega arith
-      go (first ∷ rest) chain (Ok x) read e = let z : ◌≡◌ {A = ℕ} 0 1 = cc in omega arith
+      go (first ∷ rest) chain (Ok x) read e = cc
       go (first ∷ rest) chain (Err other) read e = read_never_refused record_image RecordFits record_of m page (record_in first rest) chain.2 chain.3 other read
 
-  pub left_more : (1 ≤ page) → (x : Record) (r : Result Record Refusal) → NodeRead record_image RecordFits record_of m page r → r ≡ Ok x → (end' : ChainEnd) → end'.records ≡ end.records + 1 → end'.place ≡ end.place + x.count → x.count ≤ length x.postings
-      → (after : List ℕ) → after ≡ poured end.place (take x.count x.postings) now → Left m records place list count page end now → Left m records place list count x.next end' after
-  left_more some x r read e end' more further fits after wrote left = go left.left left.is_chained left.counted left.placed left.written r read e
+  pub left_more : (1 ≤ page) → {x : Record} {r : Result Record Refusal} → NodeRead record_image RecordFits record_of m page r → r ≡ Ok x → {postings : List ℕ} → postings ≡ x.postings.items → (end' : ChainEnd) → end'.records ≡ end.records + 1 → end'.place ≡ end.place + length postings
+      → {after : List ℕ} → after ≡ poured end.place postings now → Left m records place list count page end now → Left m records place list count x.next end' after
+  left_more some {x = x} {r = r} read e {postings = postings} same_postings end' more further {after = after} wrote left = go left.left left.is_chained left.counted left.placed left.written r read e
     where
       go : (rs : List RecordAt) → ChainFrom m.pages page rs → end.records + length rs ≡ length records → end.place + length (postings_in rs) ≡ place + length (postings_in records) → poured end.place (postings_in rs) now ≡ poured place (postings_in records) list
           → (r : Result Record Refusal) → NodeRead record_image RecordFits record_of m page r → r ≡ Ok x → Left m records place list count x.next end' after
       go [] chain counted placed written r read e = absurd (omega arith)
-      go (first ∷ rest) chain counted placed written (Err other) read e = absurd (let z : ◌≡◌ {A = ℕ} 0 1 = cc in omega arith)
+      go (first ∷ rest) chain counted placed written (Err other) read e = cc
       go (first ∷ rest) chain counted placed written (Ok y) read e =
           let same : y ≡ x = cc in
           let is : record_of x ≡ record_in first rest = ap record_of (sym same) ∙ read_value record_image RecordFits record_of m page (record_in first rest) chain.2 chain.3 y read in
           let next : x.next ≡ head_of rest = ap (λ (v : RecordPage). v.next) is in
-          let held : take x.count x.postings ≡ first.postings = ap (λ (v : RecordPage). v.postings) is in
-          let many : length first.postings ≡ x.count = ap length (sym held) ∙ length-take-le x.count x.postings fits in
+          let held : postings ≡ first.postings = same_postings ∙ ap (λ (v : RecordPage). v.postings) is in
+          let many : length first.postings ≡ length postings = ap length (sym held) in
           let both = length-append first.postings (postings_in rest) in
           let there : end'.place ≡ end.place + length first.postings = omega arith in
           record {

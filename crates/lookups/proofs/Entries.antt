@@ -1,7 +1,8 @@
 -- What is shown of an entry, and of a key in a valid tree. Assumes nothing.
-use Rattle.std.proofs.Common.{◌≡◌, ℕ, zero, suc, ◌+◌, ◌≤◌, min, Bool, true, cond, List, [], ◌∷◌, ◌++◌, map, length, take, drop, sym, refl, ap, ◌∙◌, arith, length-append}
+use Rattle.std.proofs.Common.{◌≡◌, ℕ, ◌+◌, min, Bool, true, cond, List, [], ◌∷◌, ◌++◌, map, length, take, drop, sym, refl, ap, ◌∙◌, arith, length-append}
+use Rattle.std.proofs.Math.Seq.{take-nil}
 use Rattle.std.specs.List.{flat_map, AllByRecursion}
-use Rattle.std.proofs.lemmas.List.{length-map, length-take, length-take-le}
+use Rattle.std.proofs.lemmas.List.{length-map, length-take}
 use Rattle.keys.specs.Kinds.{Kind, Field}
 use Rattle.nodes.specs.declared.entry.Entry.{Entry as EntryRead}
 use Rattle.nodes.specs.Layout.{LeafEntry}
@@ -14,6 +15,7 @@ use Rattle.book.proofs.Paged.{value_spelled}
 use Rattle.tree.specs.Trees.{RecordAt, EntryAt, held}
 use Rattle.tree.specs.Valid.{entry_in, postings_at}
 use Rattle.calls.specs.declared.answers.Looked.{Looked}
+use Rattle.calls.proofs.Spelled.{postings_held}
 use Rattle.calls.specs.Lookups.{entry_at, looked_up}
 use Rattle.lookups.specs.declared.pouring.ChainEnd.{ChainEnd}
 use Rattle.lookups.specs.Pouring.{poured, ChainPoured}
@@ -21,16 +23,16 @@ use Rattle.lookups.specs.Showing.{EntryShown}
 use Rattle.lookups.proofs.Pourings.{poured_append, poured_front, length_poured}
 
 -- an entry: its inline postings are poured first, then its chain
-pub entry_shown : (entry : EntryRead) (found : EntryAt) (reads : ℕ) (list inlined after : List ℕ) (end : ChainEnd) → entry.inline_count ≤ length entry.inline → entry_of entry ≡ entry_in found
-    → inlined ≡ poured 0 (take entry.inline_count entry.inline) list → ChainPoured entry.inline_count found.records inlined end after
+pub entry_shown : (entry : EntryRead) (found : EntryAt) (reads : ℕ) (list inlined after : List ℕ) (end : ChainEnd) (inline : List ℕ) → inline ≡ entry.inline.items → entry_of entry ≡ entry_in found
+    → inlined ≡ poured 0 inline list → ChainPoured (length inline) found.records inlined end after
     → (looked : Looked) → looked.total ≡ end.place → looked.written ≡ min end.place (length after) → looked.reads ≡ reads + end.records → EntryShown found reads list looked after
-entry_shown entry found reads list inlined after end fits is first then looked total written count =
-    let inline : take entry.inline_count entry.inline ≡ found.inline = ap (λ (e : LeafEntry). e.inline) is in
-    let many : length found.inline ≡ entry.inline_count = ap length (sym inline) ∙ length-take-le entry.inline_count entry.inline fits in
+entry_shown entry found reads list inlined after end inline inline_is is first then looked total written count =
+    let held : inline ≡ found.inline = inline_is ∙ ap (λ (e : LeafEntry). e.inline) is in
+    let many : length found.inline ≡ length inline = ap length (sym held) in
     let chain = flat_map (λ (r : RecordAt). r.postings) found.records in
     let all : after ≡ poured 0 (postings_at found) list = then.writes_its_postings
     ∙ (ap (λ (n : ℕ). poured n chain inlined) (sym many)
-    ∙ (ap (λ (xs : List ℕ). poured (length found.inline) chain xs) (first ∙ ap (λ (ps : List ℕ). poured 0 ps list) inline) ∙ sym (onward found.inline chain list))) in
+    ∙ (ap (λ (xs : List ℕ). poured (length found.inline) chain xs) (first ∙ ap (λ (ps : List ℕ). poured 0 ps list) held) ∙ sym (onward found.inline chain list))) in
     let ends = then.ends_after_its_postings in
     let both = length-append found.inline chain in
     let long : length after ≡ length list = ap length all ∙ length_poured 0 (postings_at found) list in
@@ -58,10 +60,6 @@ module _ (kind : Kind) (key : Field) (lk : kind.lawful key ≡ true) where
   pub found_there : (entry : EntryAt) (rest : List EntryAt) → entry.key ≡ key → value_at kind paged key (map held (entry ∷ rest)) ≡ (held entry).value
   found_there entry rest same = ap (λ (b : Bool). cond b (held entry).value (value_at kind paged key (map held rest))) (equal_key kind key entry.key lk (sym same))
 
-joined_mapped : {X Y A : Type 0} (f : X → Y) (g : Y → List A) (xs : List X) → flat_map g (map f xs) ≡ flat_map (λ x. g (f x)) xs
-joined_mapped f g [] = refl
-joined_mapped f g (x ∷ xs) = ap (λ (ys : List _). g (f x) ++ ys) (joined_mapped f g xs)
-
 -- what the entry of a key shows is what its book has
 module _ (kind : Kind) (key : Field) (lk : kind.lawful key ≡ true) (height : ℕ) (entries : Entries) (list : List ℕ) where
   looked_is : (looked : Looked) (entry : Entry) → entry_at kind entries key ≡ entry → looked.total ≡ length (postings_in entry) → looked.written ≡ length (take (length list) (postings_in entry)) → looked.reads ≡ height + length entry.records → looked ≡ looked_up kind height entries key (length list)
@@ -79,9 +77,6 @@ module _ (kind : Kind) (key : Field) (lk : kind.lawful key ≡ true) (height : �
       let ps : postings_in entry ≡ postings_of kind (book_of entries) key = ap postings_in (sym is) ∙ value_spelled kind key entries in
       e ∙ (ap (λ (xs : List ℕ). take (length list) xs ++ drop (length (take (length list) xs)) list) ps ∙ sym (ap (λ (b : Bool). cond b (shown kind (book_of entries) key (length list) ++ drop (length (shown kind (book_of entries) key (length list))) list) list) lk))
 
-  postings_held : (found : EntryAt) → postings_in (held found).value ≡ postings_at found
-  postings_held found = ap (λ (ps : List ℕ). found.inline ++ ps) (joined_mapped (λ (r : RecordAt). r.postings) (λ (ps : List ℕ). ps) found.records)
-
   pub shown_as_found : (found : EntryAt) (looked : Looked) (after : List ℕ) → entry_at kind entries key ≡ (held found).value → EntryShown found height list looked after
       → (looked ≡ looked_up kind height entries key (length list)) × (after ≡ list_after_lookup kind (book_of entries) key list)
   shown_as_found found looked after is shows = (
@@ -92,13 +87,9 @@ module _ (kind : Kind) (key : Field) (lk : kind.lawful key ≡ true) (height : �
     list_is after (held found).value is (shows.writes_what_fits ∙ ap (λ (xs : List ℕ). take (length list) xs ++ drop (length (take (length list) xs)) list) (sym (postings_held found))),
   )
 
-  take_none : (n : ℕ) → take {A = ℕ} n [] ≡ []
-  take_none zero = refl
-  take_none (suc n) = refl
-
   pub shown_as_absent : (looked : Looked) → entry_at kind entries key ≡ paged.none → looked.total ≡ 0 → looked.written ≡ 0 → looked.reads ≡ height
       → (looked ≡ looked_up kind height entries key (length list)) × (list ≡ list_after_lookup kind (book_of entries) key list)
   shown_as_absent looked is total written reads = (
-    looked_is looked paged.none is total (written ∙ sym (ap length (take_none (length list)))) (omega arith),
-    list_is list paged.none is (sym (ap (λ (xs : List ℕ). xs ++ drop (length xs) list) (take_none (length list)))),
+    looked_is looked paged.none is total (written ∙ sym (ap length (take-nil (length list)))) (omega arith),
+    list_is list paged.none is (sym (ap (λ (xs : List ℕ). xs ++ drop (length xs) list) (take-nil (length list)))),
   )

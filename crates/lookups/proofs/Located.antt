@@ -19,7 +19,7 @@ use Rattle.calls.specs.Lookups.{entry_at}
 use Rattle.searching.specs.declared.arrival.Descent.{Descent}
 use Rattle.searching.specs.Descents.{Arrives}
 use Rattle.searching.specs.Chains.{ChainFrom}
-use Rattle.searching.proofs.Picking.{joined_append}
+use Rattle.std.proofs.lemmas.List.Concat.{flat_map-append}
 use Rattle.searching.proofs.Descending.{keys_lawful}
 use Rattle.searching.proofs.Leaves.{LeafWhole, leaves_whole}
 use Rattle.searching.proofs.Chained.{chain_from, chains_linkable, chains_short}
@@ -28,38 +28,38 @@ use Rattle.lookups.proofs.Entries.{Other, passed_over, found_there, shown_as_fou
 
 -- a list whose images fall apart around one falls apart itself
 pub map_split : {X Y : Type 0} (f : X → Y) (xs : List X) (before after : List Y) (y : Y) → map f xs ≡ before ++ (y ∷ after) → (front : List X) × (x : X) × (back : List X) × (xs ≡ front ++ (x ∷ back)) × (map f front ≡ before) × (f x ≡ y)
-map_split f [] [] after y e = absurd (let z : ◌≡◌ {A = ℕ} 0 1 = cc in omega arith)
-map_split f [] (b ∷ before) after y e = absurd (let z : ◌≡◌ {A = ℕ} 0 1 = cc in omega arith)
+map_split f [] [] after y e = cc
+map_split f [] (b ∷ before) after y e = cc
 map_split f (x ∷ xs) [] after y e = ([], x, xs, refl, refl, cc)
 map_split f (x ∷ xs) (b ∷ before) after y e =
     let rest : map f xs ≡ before ++ (y ∷ after) = cc in
     let head : f x ≡ b = cc in
     let ih = map_split f xs before after y rest in
-    (x ∷ ih.0, ih.1, ih.2, ap (λ (ys : List _). x ∷ ys) ih.3, (λ i. head i ∷ ih.4 i), ih.5)
+    (x ∷ ih.0, ih.1, ih.2, ap (λ (ys : List _). x ∷ ys) {y = ih.0 ++ (ih.1 ∷ ih.2)} ih.3, (λ i. head i ∷ ih.4 i), ih.5)
 
 module _ (kind : Kind) (key : Field) (lk : kind.lawful key ≡ true) where
   -- entries below or above a key are others
   others_below : (es : List EntryAt) → AllByRecursion (λ (e : EntryAt). kind.lawful e.key ≡ true) es → AllByRecursion (λ (e : EntryAt). below kind e.key key ≡ true) es → AllByRecursion (Other kind key lk) es
   others_below [] lawful all = tt
   others_below (e ∷ es) lawful all =
-      ((lawful.0, λ same. let own : below kind key key ≡ true = ap (λ (k : Field). below kind k key) (sym same) ∙ all.0 in let none = below_irreflexive kind key lk in let z : ◌≡◌ {A = ℕ} 0 1 = cc in omega arith), others_below es lawful.1 all.1)
+      ((lawful.0, λ same. let own : below kind key key ≡ true = ap (λ (k : Field). below kind k key) (sym same) ∙ all.0 in let none = below_irreflexive kind key lk in cc), others_below es lawful.1 all.1)
 
   others_above : (es : List EntryAt) → AllByRecursion (λ (e : EntryAt). kind.lawful e.key ≡ true) es → AllByRecursion (λ (e : EntryAt). below kind key e.key ≡ true) es → AllByRecursion (Other kind key lk) es
   others_above [] lawful all = tt
   others_above (e ∷ es) lawful all =
-      ((lawful.0, λ same. let own : below kind key key ≡ true = ap (λ (k : Field). below kind key k) (sym same) ∙ all.0 in let none = below_irreflexive kind key lk in let z : ◌≡◌ {A = ℕ} 0 1 = cc in omega arith), others_above es lawful.1 all.1)
+      ((lawful.0, λ same. let own : below kind key key ≡ true = ap (λ (k : Field). below kind key k) (sym same) ∙ all.0 in let none = below_irreflexive kind key lk in cc), others_above es lawful.1 all.1)
 
   others_lacking : (es : List EntryAt) → AllByRecursion (λ (e : EntryAt). kind.lawful e.key ≡ true) es → Lacks key (map entry_in es) → AllByRecursion (Other kind key lk) es
   others_lacking [] lawful lacks = tt
   others_lacking (e ∷ es) lawful lacks = ((lawful.0, lacks.0), others_lacking es lawful.1 lacks.1)
 
-module _ (kind : Kind) (pages : Pages) (entries : Entries) (valid : Valid kind pages entries) (few : length pages ≤ 65536) (key : Field) (lk : kind.lawful key ≡ true) (descent : Descent) (there : Arrives valid key descent) where
+module _ {kind : Kind} {pages : Pages} {entries : Entries} (valid : Valid kind pages entries) (few : length pages ≤ 65536) {key : Field} (lk : kind.lawful key ≡ true) {descent : Descent} (there : Arrives valid key descent) where
   in_leaves : List Leaf → List EntryAt
   in_leaves leaves = flat_map (λ (leaf : Leaf). leaf.entries) leaves
 
   all_entries : entries_of valid.levels valid.tree ≡ in_leaves there.left ++ (there.leaf.entries ++ in_leaves there.right)
   unfolding in_leaves
-  all_entries = ap (flat_map (λ (leaf : Leaf). leaf.entries)) there.is_among_the_leaves ∙ joined_append (λ (leaf : Leaf). leaf.entries) there.left (there.leaf ∷ there.right)
+  all_entries = ap (flat_map (λ (leaf : Leaf). leaf.entries)) there.is_among_the_leaves ∙ flat_map-append (λ (leaf : Leaf). leaf.entries) there.left (there.leaf ∷ there.right)
 
   all_lawful : AllByRecursion (λ (e : EntryAt). kind.lawful e.key ≡ true) (in_leaves there.left ++ (there.leaf.entries ++ in_leaves there.right))
   all_lawful =

@@ -1,6 +1,6 @@
 -- Postings written into a list one by one. Assumes nothing.
-use Rattle.std.proofs.Common.{◌≡◌, ℕ, zero, suc, ◌+◌, ◌<◌, ◌≤◌, List, [], ◌∷◌, ◌++◌, length, get_or, take, drop, set, sym, refl, ap, ◌∙◌, add-zero, add-suc, arith, length-set}
-use Rattle.std.proofs.lemmas.List.{take_more, set_past}
+use Rattle.std.proofs.Common.{◌≡◌, ℕ, zero, suc, ◌+◌, ◌-◌, min, List, [], ◌∷◌, ◌++◌, length, take, drop, set, sym, refl, ap, ◌∙◌, add-zero, add-suc, arith, length-set}
+use Rattle.std.proofs.lemmas.List.{length-drop, length-take, drop-drop, take_min, drop_min}
 use Rattle.lookups.specs.Pouring.{poured}
 
 -- one after another
@@ -11,24 +11,6 @@ poured_append place (x ∷ xs) ys list = poured_append (suc place) xs ys (set li
 pub length_poured : (place : ℕ) (xs list : List ℕ) → length (poured place xs list) ≡ length list
 length_poured place [] list = refl
 length_poured place (x ∷ xs) list = length_poured (suc place) xs (set list place x) ∙ length-set list place x
-
--- one more of a slice
-pub poured_more : (place k : ℕ) (postings list : List ℕ) → k < length postings → poured place (take (k + 1) postings) list ≡ set (poured place (take k postings) list) (place + k) (get_or postings k 0)
-poured_more place k postings list h =
-    ap (λ (ps : List ℕ). poured place ps list) (take_more postings k 0 h)
-    ∙ (poured_append place (take k postings) (get_or postings k 0 ∷ []) list ∙ ap (λ (n : ℕ). set (poured place (take k postings) list) (place + n) (get_or postings k 0)) (cut k postings h))
-  where
-    cut : (k : ℕ) (xs : List ℕ) → k < length xs → length (take k xs) ≡ k
-    cut zero xs h = refl
-    cut (suc k) [] h = absurd (omega arith)
-    cut (suc k) (x ∷ xs) h = ap (λ (n : ℕ). suc n) (cut k xs (omega arith))
-
--- one that comes past the end
-pub poured_past : (place k : ℕ) (postings list after : List ℕ) → k < length postings → after ≡ poured place (take k postings) list → length after ≤ place + k → after ≡ poured place (take (k + 1) postings) list
-poured_past place k postings list after h is past = sym (poured_more place k postings list h ∙ (ap (λ (xs : List ℕ). set xs (place + k) (get_or postings k 0)) (sym is) ∙ set_past after (place + k) (get_or postings k 0) past))
-
-pub poured_here : (place k : ℕ) (postings list after : List ℕ) → k < length postings → after ≡ poured place (take k postings) list → set after (place + k) (get_or postings k 0) ≡ poured place (take (k + 1) postings) list
-poured_here place k postings list after h is = ap (λ (xs : List ℕ). set xs (place + k) (get_or postings k 0)) is ∙ sym (poured_more place k postings list h)
 
 -- from the front: the first places are written, the others stay
 poured_shift : (place : ℕ) (xs : List ℕ) (y : ℕ) (ys : List ℕ) → poured (suc place) xs (y ∷ ys) ≡ y ∷ poured place xs ys
@@ -44,3 +26,25 @@ poured_front [] [] = refl
 poured_front [] (l ∷ ls) = refl
 poured_front (x ∷ xs) [] = poured_nowhere 1 xs
 poured_front (x ∷ xs) (l ∷ ls) = poured_shift 0 xs x ls ∙ ap (λ (zs : List ℕ). x ∷ zs) (poured_front xs ls)
+
+-- the places before stay, and those from there on are written from the front
+poured_from : (place : ℕ) (xs list : List ℕ) → poured place xs list ≡ take place list ++ poured 0 xs (drop place list)
+poured_from zero xs list = refl
+poured_from (suc place) xs [] = poured_nowhere (suc place) xs ∙ sym (poured_nowhere 0 xs)
+poured_from (suc place) xs (y ∷ ys) = poured_shift place xs y ys ∙ ap (λ (zs : List ℕ). y ∷ zs) (poured_from place xs ys)
+
+-- as many as there is room for, over those that stand there
+pub poured_over : (place start count : ℕ) (postings list : List ℕ) → start ≡ min place (length list) → count ≡ min (length postings) (length list - start) → take start list ++ (take count postings ++ drop (start + count) list) ≡ poured place postings list
+poured_over place start count postings list from size =
+    let room : length (drop place list) ≡ length list - start = length-drop place list ∙ omega arith in
+    let fits : count ≡ min (length (drop place list)) (length postings) = omega arith in
+    let front : take start list ≡ take place list = ap (λ (n : ℕ). take n list) from ∙ take_min place list in
+    let rest : drop start list ≡ drop place list = ap (λ (n : ℕ). drop n list) from ∙ drop_min place list in
+    let mid : take count postings ≡ take (length (drop place list)) postings = ap (λ (n : ℕ). take n postings) fits ∙ take_min (length (drop place list)) postings in
+    let long : count ≡ length (take (length (drop place list)) postings) = fits ∙ sym (length-take (length (drop place list)) postings) in
+    let tail : drop (start + count) list ≡ drop (length (take (length (drop place list)) postings)) (drop place list) = sym (drop-drop count start list) ∙ ap (drop count) rest ∙ ap (λ (n : ℕ). drop n (drop place list)) long in
+    ap (λ (xs : List ℕ). xs ++ (take count postings ++ drop (start + count) list)) front
+    ∙ ap (λ (xs : List ℕ). take place list ++ (xs ++ drop (start + count) list)) mid
+    ∙ ap (λ (xs : List ℕ). take place list ++ (take (length (drop place list)) postings ++ xs)) tail
+    ∙ ap (λ (xs : List ℕ). take place list ++ xs) (sym (poured_front postings (drop place list)))
+    ∙ sym (poured_from place postings list)

@@ -1,5 +1,5 @@
 -- A lookup as a whole. Assumes nothing.
-use Rattle.std.proofs.Common.{◌≡◌, ℕ, ◌≤◌, Bool, true, false, cond, List, length, Some, None, Ok, Err, Result, sym, refl, ap, ◌∙◌, subst, arith, MatchResult}
+use Rattle.std.proofs.Common.{◌≡◌, ℕ, ◌≤◌, true, false, List, length, Ok, Err, Result, sym, ap, ◌∙◌, subst, MatchResult}
 use Rattle.std.proofs.lemmas.Result.{MatchResult-at_ok, MatchResult-at_err}
 use Rattle.refusals.specs.declared.Refusal.{Refusal}
 use Rattle.refusals.specs.Refusals.{Accepted, Refused, answer_of, number_of}
@@ -16,11 +16,6 @@ use Rattle.searching.specs.NodeReads.{RefusesOnlyDamage}
 use Rattle.searching.specs.Descents.{Arrives}
 use Rattle.lookups.specs.Showing.{Shown}
 
--- what a kind's check gives is lawful, and is what was given
-pub checked : {X : Type 0} (b : Bool) (x y : X) → Some x ≡ cond b (Some y) None → (b ≡ true) × (x ≡ y)
-checked true x y e = (refl, cc)
-checked false x y e = let z : ◌≡◌ {A = ℕ} 0 1 = cc in absurd (omega arith)
-
 answered : {kind : Kind} {pages : Pages} {entries : Entries} (valid : Valid kind pages entries) (key : Field) (list after : List ℕ) (r : Result Looked Refusal) → MatchResult r (λ (looked : Looked). Shown valid key list looked after) (λ _. ⊥)
     → (answer_of r ≡ Accepted (looked_up kind (height_of valid) entries key (length list))) × (after ≡ list_after_lookup kind (book_of entries) key list)
 answered valid key list after (Ok looked) shown = (ap (λ (x : Looked). Accepted x) shown.answers_by_the_book, shown.writes_by_the_book)
@@ -28,12 +23,12 @@ answered valid key list after (Err refusal) shown = absurd shown
 
 -- an answer that refuses shows damage where the call refuses only damage
 pub answers_only_damage : {X : Type 0} (r : Result X Refusal) → RefusesOnlyDamage r → (number place : ℕ) → answer_of r ≡ Refused number place → ShowsDamage number
-answers_only_damage (Ok x) only number place e = let z : ◌≡◌ {A = ℕ} 0 1 = cc in absurd (omega arith)
+answers_only_damage (Ok x) only number place e = cc
 answers_only_damage (Err refusal) only number place e = let same : number_of refusal ≡ number = cc in subst ShowsDamage same only
 
 module _ (kind : Kind) (m : Meaning) (part key : Field) (list : List ℕ) (lawful : kind.lawful part ≡ true) (same : part ≡ key) (few : count_of m ≤ 65536) (way : Result Descent Refusal) (arrives : (entries : Entries) (valid : Valid kind m.pages entries) → kind.lawful part ≡ true → MatchResult way (Arrives valid part) (λ _. ⊥)) where
   refused_never : {X : Type 0} → kind.lawful key ≡ false → X
-  refused_never unlawful = let l : kind.lawful key ≡ true = ap kind.lawful (sym same) ∙ lawful in let z : ◌≡◌ {A = ℕ} 0 1 = cc in absurd (omega arith)
+  refused_never unlawful = let l : kind.lawful key ≡ true = ap kind.lawful (sym same) ∙ lawful in cc
 
   -- a way down that is refused is none of a valid tree
   pub refused_on_the_way : (refusal : Refusal) → way ≡ Err refusal → (r : Result Looked Refusal) → RefusesOnlyDamage r → (after : List ℕ) → LooksUp kind m.pages key list (answer_of r) after
@@ -45,15 +40,15 @@ module _ (kind : Kind) (m : Meaning) (part key : Field) (list : List ℕ) (lawfu
       }
 
   pub looked_up_whole : (descent : Descent) → way ≡ Ok descent → (after_way : Meaning) → after_way ≡ m → (r : Result Looked Refusal) → RefusesOnlyDamage r → (after : List ℕ)
-      → ((entries : Entries) (valid : Valid kind after_way.pages entries) → count_of after_way ≤ 65536 → kind.lawful part ≡ true → Arrives valid part descent → MatchResult r (λ (looked : Looked). Shown valid part list looked after) (λ _. ⊥))
+      → ((entries : Entries) (valid : Valid kind after_way.pages entries) → count_of after_way ≤ 65536 → Arrives valid part descent → MatchResult r (λ (looked : Looked). Shown valid part list looked after) (λ _. ⊥))
       → LooksUp kind m.pages key list (answer_of r) after
   looked_up_whole descent e after_way kept r only after shows =
       subst (λ (k : Field). LooksUp kind m.pages k list (answer_of r) after) same
       (record {
-        refuses_an_unlawful_key = λ unlawful. let z : ◌≡◌ {A = ℕ} 0 1 = cc in absurd (omega arith);
+        refuses_an_unlawful_key = λ unlawful. cc;
         shows_what_the_tree_holds = λ l entries valid.
             answered valid part list after r
-            (subst (λ (k : Meaning). (entries : Entries) (valid : Valid kind k.pages entries) → count_of k ≤ 65536 → kind.lawful part ≡ true → Arrives valid part descent → MatchResult r (λ (looked : Looked). Shown valid part list looked after) (λ _. ⊥)) kept shows
-            entries valid few lawful (MatchResult-at_ok (Arrives valid part) (λ _. ⊥) descent e (arrives entries valid lawful)));
+            (subst (λ (k : Meaning). (entries : Entries) (valid : Valid kind k.pages entries) → count_of k ≤ 65536 → Arrives valid part descent → MatchResult r (λ (looked : Looked). Shown valid part list looked after) (λ _. ⊥)) kept shows
+            entries valid few (MatchResult-at_ok (Arrives valid part) (λ _. ⊥) descent e (arrives entries valid lawful)));
         refuses_a_lawful_key_only_for_damage = λ l. answers_only_damage r only;
       })

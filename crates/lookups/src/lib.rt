@@ -7,10 +7,11 @@ ghost use Rattle.calls.specs.Lookups.{LooksUp};
 
 use calls::answers::Looked;
 use finding::look_in_leaf;
-use keys::KeyKind;
+use keys::{KeyKind, LawfulKey};
 use page_store::PageStore;
 use refusals::Refusal;
 use searching::descend;
+use std::marker::PhantomData;
 
 mod finding;
 mod pouring;
@@ -21,12 +22,16 @@ pub fn lookup<S: PageStore, K: KeyKind>(
     key: &[u8],
     list: &mut [u64],
 ) -> Result<Looked, Refusal>
-    ensures keeps_the_meaning { S.PageStore.meaning store.new ≡ S.PageStore.meaning store.old }
-    ensures looks_up { LooksUp K.KeyKind.kind (S.PageStore.meaning store.old).pages key.now list.old (answer_of result) list.new }
+    ensures keeps_the_meaning { S.meaning store.new ≡ S.meaning store.old }
+    ensures looks_up { LooksUp K.kind (S.meaning store.old).pages key.now list.old (answer_of result) list.new }
 {
     let Some(part) = K::check(key) else {
         return Err(Refusal::Key(0));
     };
-    let descent = descend::<S, K>(store, part)?;
-    look_in_leaf::<S, K>(store, &descent, part, list)
+    let key = LawfulKey::<K> {
+        field: part,
+        kind: PhantomData,
+    };
+    let descent = descend::<S, K>(store, key.field)?;
+    look_in_leaf(store, &descent, &key, list)
 }

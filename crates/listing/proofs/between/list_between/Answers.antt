@@ -1,46 +1,42 @@
-use Rattle.std.proofs.Common.{ℕ, ◌-◌, ◌/◌, min, sym, refl, ap, ◌∙◌, subst}
-use Rattle.refusals.specs.Refusals.{answer_of}
+use Rattle.std.proofs.Common.{◌≡◌, ℕ, ◌-◌, ◌/◌, min, length, sym, ◌∙◌, subst}
 use Rattle.page_store.specs.Meanings.{Meaning}
 use Rattle.nodes.specs.Meanings.{leaf_of}
 use Rattle.listing.specs.Walks.{LeavesWalked}
+use Rattle.listing.proofs.Windows.{same_skip}
 use Rattle.listing.proofs.Whole.{lists_nothing, refused_on_the_way, refused_on_the_leaves, lists_the_leaves}
 use Rattle.listing.proofs.between.list_between.Goals as goal
 
-pub returns-then-goes_back : goal.returns-then-goes_back
-returns-then-goes_back g c =
-    let m = g.S.PageStore.meaning c.args.store.now in
-    record {
-      keeps_the_meaning = refl;
-      lists_between = lists_nothing g.K.KeyKind.kind m c.args.first.now c.args.second.now c.requires.first_is_lawful c.requires.second_is_lawful c.args.skip c.args.buffer.now (sym c.goes_back.ensures.is_above ∙ c.if-goes_back.true);
-    }
+pub returns-then-goes_back-clause-lists_between : goal.returns-then-goes_back-clause-lists_between
+returns-then-goes_back-clause-lists_between g c =
+    let range = c.args.range.now in
+    let window = c.args.window.now in
+    lists_nothing g.K.KeyKind.kind (g.S.PageStore.meaning c.args.store.now) range.first.field.now range.second.field.now range.first.is_lawful range.second.is_lawful window.skip window.buffer.now (sym c.goes_back.ensures.is_above ∙ c.if-goes_back.true)
 
-pub returns-in_err-descent : goal.returns-in_err-descent
-returns-in_err-descent g c =
-    let m = g.S.PageStore.meaning c.args.store.now in
-    record {
-      keeps_the_meaning = c.descend.ensures.keeps_the_meaning;
-      lists_between = refused_on_the_way g.K.KeyKind.kind m c.args.first.now c.args.second.now c.requires.first_is_lawful c.requires.second_is_lawful c.args.skip c.args.buffer.now c.descend.ensures.pages_are_few c.descend.result c.descend.ensures.arrives_at_the_leaf_of_the_key
-          c.in_err-descent.field-0.0 c.in_err-descent.was (answer_of c.from_residual.result) c.args.buffer.now;
-    }
+pub returns-in_err-descent-clause-lists_between : goal.returns-in_err-descent-clause-lists_between
+returns-in_err-descent-clause-lists_between g c =
+    let range = c.args.range.now in
+    let window = c.args.window.now in
+    refused_on_the_way g.K.KeyKind.kind (g.S.PageStore.meaning c.args.store.now) range.first.field.now range.second.field.now range.first.is_lawful range.second.is_lawful window.skip window.buffer.now c.descend.ensures.pages_are_few c.descend.ensures.arrives_at_the_leaf_of_the_key
+    c.in_err-descent.was
 
-pub returns-in_err-total : goal.returns-in_err-total
-returns-in_err-total g c =
-    let m = g.S.PageStore.meaning c.args.store.now in
-    let walked : LeavesWalked g.K.KeyKind.kind m.pages (leaf_of c.in_ok-descent.descent.leaf) c.args.first.now c.args.second.now c.args.skip c.args.buffer.now c.list_leaves.result c.list_leaves.new.buffer =
-    subst (λ (k : Meaning). LeavesWalked g.K.KeyKind.kind k.pages (leaf_of c.in_ok-descent.descent.leaf) c.args.first.now c.args.second.now c.args.skip c.args.buffer.now c.list_leaves.result c.list_leaves.new.buffer) c.descend.ensures.keeps_the_meaning c.list_leaves.ensures.walks_the_leaves in
-    record {
-      keeps_the_meaning = c.list_leaves.ensures.keeps_the_meaning ∙ c.descend.ensures.keeps_the_meaning;
-      lists_between = refused_on_the_leaves g.K.KeyKind.kind m c.args.first.now c.args.second.now c.requires.first_is_lawful c.requires.second_is_lawful c.args.skip c.args.buffer.now c.descend.ensures.pages_are_few c.descend.result c.descend.ensures.arrives_at_the_leaf_of_the_key
-          c.in_ok-descent.descent c.in_ok-descent.was c.list_leaves.result c.list_leaves.new.buffer walked c.in_err-total.field-0.0 c.in_err-total.was (answer_of c.from_residual-in_err-total.result);
-    }
+pub returns-in_err-total-clause-lists_between : goal.returns-in_err-total-clause-lists_between
+returns-in_err-total-clause-lists_between g c =
+    let range = c.args.range.now in
+    let window = c.args.window.now in
+    let after = c.list_leaves.new.window.buffer.now in
+    let leaf = c.in_ok-descent.descent.leaf in
+    let walked = subst (λ (k : Meaning). LeavesWalked g.K.KeyKind.kind k.pages (leaf_of leaf) range.first.field.now range.second.field.now window.skip window.buffer.now c.list_leaves.result after) c.descend.ensures.keeps_the_meaning c.list_leaves.ensures.walks_the_leaves in
+    refused_on_the_leaves g.K.KeyKind.kind (g.S.PageStore.meaning c.args.store.now) range.first.field.now range.second.field.now range.first.is_lawful range.second.is_lawful window.skip window.buffer.now c.descend.ensures.pages_are_few c.descend.ensures.arrives_at_the_leaf_of_the_key
+    c.in_ok-descent.was walked c.in_err-total.was
 
-pub returns : goal.returns
-returns g c =
-    let m = g.S.PageStore.meaning c.args.store.now in
-    let walked : LeavesWalked g.K.KeyKind.kind m.pages (leaf_of c.in_ok-descent.descent.leaf) c.args.first.now c.args.second.now c.args.skip c.args.buffer.now c.list_leaves.result c.list_leaves.new.buffer =
-    subst (λ (k : Meaning). LeavesWalked g.K.KeyKind.kind k.pages (leaf_of c.in_ok-descent.descent.leaf) c.args.first.now c.args.second.now c.args.skip c.args.buffer.now c.list_leaves.result c.list_leaves.new.buffer) c.descend.ensures.keeps_the_meaning c.list_leaves.ensures.walks_the_leaves in
-    record {
-      keeps_the_meaning = c.list_leaves.ensures.keeps_the_meaning ∙ c.descend.ensures.keeps_the_meaning;
-      lists_between = lists_the_leaves g.K.KeyKind.kind m c.args.first.now c.args.second.now c.requires.first_is_lawful c.requires.second_is_lawful c.args.skip c.args.buffer.now c.descend.ensures.pages_are_few c.descend.result c.descend.ensures.arrives_at_the_leaf_of_the_key
-          c.in_ok-descent.descent c.in_ok-descent.was c.list_leaves.result c.list_leaves.new.buffer walked c.in_ok-total.total c.count_shown-written.result c.in_ok-total.was (c.count_shown-written.ensures.is_the_lesser ∙ ap (λ (n : ℕ). min (c.in_ok-total.total - c.args.skip) (n / 32)) c.list_leaves.auto.buffer);
-    }
+pub returns-clause-lists_between : goal.returns-clause-lists_between
+returns-clause-lists_between g c =
+    let range = c.args.range.now in
+    let window = c.args.window.now in
+    let after = c.list_leaves.new.window.buffer.now in
+    let leaf = c.in_ok-descent.descent.leaf in
+    let total = c.in_ok-total.total in
+    let walked = subst (λ (k : Meaning). LeavesWalked g.K.KeyKind.kind k.pages (leaf_of leaf) range.first.field.now range.second.field.now window.skip window.buffer.now c.list_leaves.result after) c.descend.ensures.keeps_the_meaning c.list_leaves.ensures.walks_the_leaves in
+    lists_the_leaves g.K.KeyKind.kind (g.S.PageStore.meaning c.args.store.now) range.first.field.now range.second.field.now range.first.is_lawful range.second.is_lawful window.skip window.buffer.now c.descend.ensures.pages_are_few c.descend.ensures.arrives_at_the_leaf_of_the_key
+    c.in_ok-descent.was walked c.in_ok-total.was
+    (subst (λ (skip : ℕ). c.count_shown-written.result ≡ min (total - skip) (length after / 32)) (same_skip window c.list_leaves.new.window c.list_leaves.ensures.stays_over_the_buffer) c.count_shown-written.ensures.is_the_lesser)

@@ -1,112 +1,124 @@
-use Rattle.std.proofs.Common.{◌+◌, ◌≤◌, get_or, Some, refl, ap, ◌∙◌, subst, arith}
-use Rattle.std.proofs.lemmas.Result.{IfOk-from_err, IfOk-at_ok}
-use Rattle.page_store.specs.Meanings.{Meaning}
-use Rattle.nodes.specs.Meanings.{entry_of, leaf_of}
-use Rattle.searching.proofs.Choosing.{taken_there, length_taken}
-use Rattle.listing.specs.Walks.{most_in_entry, most_in_leaf, EntryWalked}
-use Rattle.listing.proofs.LeafSteps.{leaf_start, leaf_under, leaf_lists, leaf_done, leaf_ends, first_never_unanswered, second_never_unanswered, entry_never_refused}
+use Rattle.std.proofs.Common.{◌+◌, ◌≤◌, length, refl, sym, ap, ◌∙◌, arith}
+use Rattle.std.proofs.lemmas.List.{length-map}
+use Rattle.std.proofs.lemmas.Option.{cond_some}
+use Rattle.std.proofs.lemmas.Result.{IfOk-at_ok}
+use Rattle.keys.specs.Kinds.{Field, below}
+use Rattle.nodes.specs.Meanings.{entry_of}
+use Rattle.listing.specs.Walks.{most_in_entry}
+use Rattle.listing.proofs.InRange.{unchecked}
+use Rattle.listing.proofs.Windows.{stays_on}
+use Rattle.listing.proofs.Told.{entry_told}
+use Rattle.searching.proofs.Choosing.{meant_there}
+use Rattle.listing.proofs.LeafSteps.{leaf_start, key_lawful, leaf_under, leaf_lists, leaf_done, leaf_ends, entry_never_refused}
 use Rattle.listing.proofs.leaves.list_leaf.Goals as goal
 
-pub loop-i-init : goal.loop-i-init
-loop-i-init g c = (refl, omega arith, leaf_start g.K.KeyKind.kind (g.S.PageStore.meaning c.args.store.now).pages (leaf_of c.args.leaf.now) c.args.first.now c.args.second.now c.args.at c.args.skip c.args.buffer.now)
+pub loop-entry-init : goal.loop-entry-init
+loop-entry-init g c =
+    record { same_meaning = refl; stays = refl; few = omega arith; so_far = leaf_start }
 
-pub returns-in_default : goal.returns-in_default
-returns-in_default g c =
-    let m = g.S.PageStore.meaning c.args.store.now in
+pub returns-in_default-clause-walks_the_leaf : goal.returns-in_default-clause-walks_the_leaf
+returns-in_default-clause-walks_the_leaf g c =
     let leaf = c.args.leaf.now in
-    let x = get_or leaf.entries c.loop-i.i c.index-leaf-i.result in
-    let there = taken_there entry_of leaf.entries leaf.count c.loop-i.i c.index-leaf-i.result c.loop-i-test.true (omega arith) in
+    let range = c.args.range.now in
+    let i = c.loop-entry.entry-index in
+    let x = c.entry-item.result in
+    let there = meant_there entry_of c.as_slice-entry-items.result.now leaf.entries.items i x c.as_slice-entry-items.ensures.value c.loop-entry-test.true c.entry-item.is in
     record {
-      keeps_the_meaning = c.loop-i.invariant.0;
-      counts_few = tt;
-      walks_the_leaf = record {
-        passes_it = λ node is readable rising lf ls.
-            absurd (first_never_unanswered g.K.KeyKind.kind m.pages (leaf_of leaf) c.args.first.now c.args.second.now c.args.at c.args.skip c.args.buffer.now c.loop-i.i c.loop-i.next c.loop-i.buffer c.loop-i.invariant.2 (entry_of x) there node (record { is_it = is; readable = readable; rising = rising; first_lawful = lf; second_lawful = ls }) c.is_below.result c.is_below.ensures.is_the_order_of_lawful_fields c.in_default.is);
-      };
+      passes_it = λ node is readable rising.
+          absurd (unchecked (g.K.KeyKind.kind.lawful x.key) _ c.in_default.ensures.is_the_field_if_lawful
+          (key_lawful c.loop-entry.invariant.so_far there
+          (record { is_it = is; readable = readable; rising = rising; second_lawful = range.second.is_lawful })));
     }
 
-pub loop-i-preserved-then-is_before : goal.loop-i-preserved-then-is_before
-loop-i-preserved-then-is_before g c =
-    let m = g.S.PageStore.meaning c.args.store.now in
+pub loop-entry-preserved-then-starts_after : goal.loop-entry-preserved-then-starts_after
+loop-entry-preserved-then-starts_after g c =
+    let kind = g.K.KeyKind.kind in
     let leaf = c.args.leaf.now in
-    let x = get_or leaf.entries c.loop-i.i c.index-leaf-i.result in
-    let there = taken_there entry_of leaf.entries leaf.count c.loop-i.i c.index-leaf-i.result c.loop-i-test.true (omega arith) in
-    let few = c.loop-i.invariant.1 in
-    (c.loop-i.invariant.0, omega arith, leaf_under g.K.KeyKind.kind m.pages (leaf_of leaf) c.args.first.now c.args.second.now c.args.at c.args.skip c.args.buffer.now c.loop-i.i c.loop-i.next c.loop-i.buffer c.loop-i.invariant.2 (entry_of x) there c.is_below.result c.is_below.ensures.is_the_order_of_lawful_fields (c.in-Some.is ∙ ap Some c.if-is_before.true))
-
-pub returns-in_default-lies_past : goal.returns-in_default-lies_past
-returns-in_default-lies_past g c =
-    let m = g.S.PageStore.meaning c.args.store.now in
-    let leaf = c.args.leaf.now in
-    let x = get_or leaf.entries c.loop-i.i c.index-leaf-i.result in
-    let there = taken_there entry_of leaf.entries leaf.count c.loop-i.i c.index-leaf-i.result c.loop-i-test.true (omega arith) in
+    let range = c.args.range.now in
+    let i = c.loop-entry.entry-index in
+    let x = c.entry-item.result in
+    let so_far = c.loop-entry.invariant in
+    let few = so_far.few in
+    let most = c.as_slice-entry-items.ensures.fits in
+    let there = meant_there entry_of c.as_slice-entry-items.result.now leaf.entries.items i x c.as_slice-entry-items.ensures.value c.loop-entry-test.true c.entry-item.is in
+    let same = ap (λ r. r.now) (cond_some (kind.lawful x.key) _ c.in-Some.key.field (sym c.in-Some.ensures.is_the_field_if_lawful)).1 in
     record {
-      keeps_the_meaning = c.loop-i.invariant.0;
-      counts_few = tt;
-      walks_the_leaf = record {
-        passes_it = λ node is readable rising lf ls.
-            absurd (second_never_unanswered g.K.KeyKind.kind m.pages (leaf_of leaf) c.args.first.now c.args.second.now c.args.at c.args.skip c.args.buffer.now c.loop-i.i c.loop-i.next c.loop-i.buffer c.loop-i.invariant.2 (entry_of x) there node (record { is_it = is; readable = readable; rising = rising; first_lawful = lf; second_lawful = ls }) c.lies_past.result c.lies_past.ensures.is_above_it c.in_default-lies_past.is);
-      };
+      same_meaning = so_far.same_meaning;
+      stays = so_far.stays;
+      few = omega arith;
+      so_far =
+          leaf_under so_far.so_far there
+          (ap (λ (key : Field). below kind key range.first.field.now) same ∙ sym c.starts_after.ensures.is_below_it ∙ c.if-starts_after.true);
     }
 
-pub returns-then-is_after : goal.returns-then-is_after
-returns-then-is_after g c =
-    let m = g.S.PageStore.meaning c.args.store.now in
+pub returns-then-ends_before-clause-walks_the_leaf : goal.returns-then-ends_before-clause-walks_the_leaf
+returns-then-ends_before-clause-walks_the_leaf g c =
+    let kind = g.K.KeyKind.kind in
     let leaf = c.args.leaf.now in
-    let x = get_or leaf.entries c.loop-i.i c.index-leaf-i.result in
-    let there = taken_there entry_of leaf.entries leaf.count c.loop-i.i c.index-leaf-i.result c.loop-i-test.true (omega arith) in
-    let few = c.loop-i.invariant.1 in
-    let turns = c.loop-i-test.true in
+    let range = c.args.range.now in
+    let i = c.loop-entry.entry-index in
+    let x = c.entry-item.result in
+    let there = meant_there entry_of c.as_slice-entry-items.result.now leaf.entries.items i x c.as_slice-entry-items.ensures.value c.loop-entry-test.true c.entry-item.is in
+    let same = ap (λ r. r.now) (cond_some (kind.lawful x.key) _ c.in-Some.key.field (sym c.in-Some.ensures.is_the_field_if_lawful)).1 in
     record {
-      keeps_the_meaning = c.loop-i.invariant.0;
-      counts_few = omega arith;
-      walks_the_leaf = record {
-        passes_it = λ node is readable rising lf ls.
-            leaf_done g.K.KeyKind.kind m.pages (leaf_of leaf) c.args.first.now c.args.second.now c.args.at c.args.skip c.args.buffer.now c.loop-i.i c.loop-i.next c.loop-i.buffer c.loop-i.invariant.2 (entry_of x) there node (record { is_it = is; readable = readable; rising = rising; first_lawful = lf; second_lawful = ls }) c.lies_past.result c.lies_past.ensures.is_above_it (c.in-Some-lies_past.is ∙ ap Some c.if-is_after.true);
-      };
+      passes_it = λ node is readable rising.
+          leaf_done c.loop-entry.invariant.so_far there
+          (record { is_it = is; readable = readable; rising = rising; second_lawful = range.second.is_lawful })
+          (ap (below kind range.second.field.now) same ∙ sym c.ends_before.ensures.is_above_it ∙ c.if-ends_before.true);
     }
 
-pub returns-in_err-next : goal.returns-in_err-next
-returns-in_err-next g c =
+pub returns-in_err-next-clause-walks_the_leaf : goal.returns-in_err-next-clause-walks_the_leaf
+returns-in_err-next-clause-walks_the_leaf g c =
     let m = g.S.PageStore.meaning c.args.store.now in
     let leaf = c.args.leaf.now in
-    let x = get_or leaf.entries c.loop-i.i c.index-leaf-i.result in
-    let there = taken_there entry_of leaf.entries leaf.count c.loop-i.i c.index-leaf-i.result c.loop-i-test.true (omega arith) in
-    let walked : EntryWalked m.pages (entry_of x) c.loop-i.next c.args.skip c.loop-i.buffer c.list_entry.result c.list_entry.new.buffer = subst (λ (k : Meaning). EntryWalked k.pages (entry_of x) c.loop-i.next c.args.skip c.loop-i.buffer c.list_entry.result c.list_entry.new.buffer) c.loop-i.invariant.0 c.list_entry.ensures.walks_the_entry in
+    let range = c.args.range.now in
+    let window = c.args.window.now in
+    let here = c.loop-entry.window in
+    let i = c.loop-entry.entry-index in
+    let x = c.entry-item.result in
+    let so_far = c.loop-entry.invariant in
+    let there = meant_there entry_of c.as_slice-entry-items.result.now leaf.entries.items i x c.as_slice-entry-items.ensures.value c.loop-entry-test.true c.entry-item.is in
+    let walked = entry_told m (g.S.PageStore.meaning c.loop-entry.store) window here so_far.same_meaning so_far.stays c.list_entry.ensures.walks_the_entry in
     record {
-      keeps_the_meaning = c.list_entry.ensures.keeps_the_meaning ∙ c.loop-i.invariant.0;
-      counts_few = IfOk-from_err c.from_residual.result (λ progress. progress.at ≤ c.args.at + most_in_leaf) c.from_residual.ensures.0;
-      walks_the_leaf = record {
-        passes_it = λ node is readable rising lf ls.
-            absurd (entry_never_refused g.K.KeyKind.kind m.pages (leaf_of leaf) c.args.first.now c.args.second.now c.args.at c.args.skip c.args.buffer.now c.loop-i.i c.loop-i.next c.loop-i.buffer c.loop-i.invariant.2 (entry_of x) there node (record { is_it = is; readable = readable; rising = rising; first_lawful = lf; second_lawful = ls }) c.list_entry.result c.in_err-next.field-0.0 c.list_entry.new.buffer walked c.in_err-next.was);
-      };
+      passes_it = λ node is readable rising.
+          absurd (entry_never_refused so_far.so_far there
+          (record { is_it = is; readable = readable; rising = rising; second_lawful = range.second.is_lawful }) walked c.in_err-next.was);
     }
 
-pub loop-i-preserved : goal.loop-i-preserved
-loop-i-preserved g c =
+pub loop-entry-preserved : goal.loop-entry-preserved
+loop-entry-preserved g c =
+    let kind = g.K.KeyKind.kind in
     let m = g.S.PageStore.meaning c.args.store.now in
     let leaf = c.args.leaf.now in
-    let x = get_or leaf.entries c.loop-i.i c.index-leaf-i.result in
-    let there = taken_there entry_of leaf.entries leaf.count c.loop-i.i c.index-leaf-i.result c.loop-i-test.true (omega arith) in
-    let walked : EntryWalked m.pages (entry_of x) c.loop-i.next c.args.skip c.loop-i.buffer c.list_entry.result c.list_entry.new.buffer = subst (λ (k : Meaning). EntryWalked k.pages (entry_of x) c.loop-i.next c.args.skip c.loop-i.buffer c.list_entry.result c.list_entry.new.buffer) c.loop-i.invariant.0 c.list_entry.ensures.walks_the_entry in
-    let few = c.loop-i.invariant.1 in
-    let more = IfOk-at_ok (λ next. next ≤ c.loop-i.next + most_in_entry) c.in_ok-next.was c.list_entry.ensures.counts_few in (
-      c.list_entry.ensures.keeps_the_meaning ∙ c.loop-i.invariant.0,
-      omega arith,
-      leaf_lists g.K.KeyKind.kind m.pages (leaf_of leaf) c.args.first.now c.args.second.now c.args.at c.args.skip c.args.buffer.now c.loop-i.i c.loop-i.next c.loop-i.buffer c.loop-i.invariant.2 (entry_of x) there c.is_below.result c.lies_past.result c.is_below.ensures.is_the_order_of_lawful_fields (c.in-Some.is ∙ ap Some c.if-is_before.false) c.lies_past.ensures.is_above_it (c.in-Some-lies_past.is ∙ ap Some c.if-is_after.false) c.list_entry.result c.in_ok-next.next c.list_entry.new.buffer walked c.in_ok-next.was,
-    )
-
-pub returns : goal.returns
-returns g c =
-    let m = g.S.PageStore.meaning c.args.store.now in
-    let leaf = c.args.leaf.now in
-    let few = c.loop-i.invariant.1 in
-    let past = c.loop-i-test.false in
+    let range = c.args.range.now in
+    let window = c.args.window.now in
+    let here = c.loop-entry.window in
+    let i = c.loop-entry.entry-index in
+    let x = c.entry-item.result in
+    let so_far = c.loop-entry.invariant in
+    let few = so_far.few in
+    let most = c.as_slice-entry-items.ensures.fits in
+    let more = IfOk-at_ok (λ next. next ≤ c.loop-entry.next + most_in_entry) c.in_ok-next.was c.list_entry.ensures.counts_few in
+    let there = meant_there entry_of c.as_slice-entry-items.result.now leaf.entries.items i x c.as_slice-entry-items.ensures.value c.loop-entry-test.true c.entry-item.is in
+    let same = ap (λ r. r.now) (cond_some (kind.lawful x.key) _ c.in-Some.key.field (sym c.in-Some.ensures.is_the_field_if_lawful)).1 in
+    let walked = entry_told m (g.S.PageStore.meaning c.loop-entry.store) window here so_far.same_meaning so_far.stays c.list_entry.ensures.walks_the_entry in
     record {
-      keeps_the_meaning = c.loop-i.invariant.0;
-      counts_few = omega arith;
-      walks_the_leaf = record {
-        passes_it = λ node is readable rising lf ls.
-            leaf_ends g.K.KeyKind.kind m.pages (leaf_of leaf) c.args.first.now c.args.second.now c.args.at c.args.skip c.args.buffer.now c.loop-i.i c.loop-i.next c.loop-i.buffer c.loop-i.invariant.2 node (record { is_it = is; readable = readable; rising = rising; first_lawful = lf; second_lawful = ls }) (omega (arith, length_taken entry_of leaf.entries leaf.count (omega arith)));
-      };
+      same_meaning = c.list_entry.ensures.keeps_the_meaning ∙ so_far.same_meaning;
+      stays = stays_on window here c.list_entry.new.window so_far.stays c.list_entry.ensures.stays_over_the_buffer;
+      few = omega arith;
+      so_far =
+          leaf_lists so_far.so_far there
+          (ap (λ (key : Field). below kind key range.first.field.now) same ∙ sym c.starts_after.ensures.is_below_it ∙ c.if-starts_after.false)
+          (ap (below kind range.second.field.now) same ∙ sym c.ends_before.ensures.is_above_it ∙ c.if-ends_before.false) walked c.in_ok-next.was;
+    }
+
+pub returns-clause-walks_the_leaf : goal.returns-clause-walks_the_leaf
+returns-clause-walks_the_leaf g c =
+    let leaf = c.args.leaf.now in
+    let range = c.args.range.now in
+    let past = c.loop-entry-test.false in
+    record {
+      passes_it = λ node is readable rising.
+          leaf_ends c.loop-entry.invariant.so_far
+          (record { is_it = is; readable = readable; rising = rising; second_lawful = range.second.is_lawful }) (let same = ap length c.as_slice-entry-items.ensures.value in omega (arith, length-map leaf.entries.items entry_of));
     }

@@ -1,24 +1,14 @@
-use Rattle.std.proofs.Common.{◌≡◌, get_or, arith}
-use Rattle.nodes.specs.Meanings.{entry_of, leaf_of}
-use Rattle.searching.proofs.Choosing.{length_taken}
-use Rattle.lookups.proofs.Found.{lacks_more, found_here, lacks_all, told_same, told_other}
+use Rattle.std.proofs.Common.{◌∙◌, rules, tests}
+use Rattle.std.specs.Str.{bytes_eq}
+use Rattle.std.proofs.lemmas.Iterator.{YieldsList-from_slice}
+use Rattle.std.proofs.lemmas.Iterator.Search.{find_from_yields_List}
+use Rattle.lookups.proofs.Found.{found_is}
 use Rattle.lookups.proofs.finding.entry_of.Goals as goal
-
-pub loop-i-preserved : goal.loop-i-preserved
-loop-i-preserved c =
-    let leaf = c.args.leaf.now in
-    lacks_more c.args.key.now leaf.entries leaf.count c.loop-i.i c.index-leaf-i.result c.loop-i-test.true (omega arith) c.loop-i.invariant
-    (told_other c.same_bytes.result ((get_or leaf.entries c.loop-i.i c.index-leaf-i.result).key ≡ c.args.key.now) c.same_bytes.ensures.tells_equal_bytes c.if-same_bytes.false)
-
-pub returns-then-same_bytes : goal.returns-then-same_bytes
-returns-then-same_bytes c =
-    let leaf = c.args.leaf.now in
-    record {
-      has_the_key = found_here c.args.key.now leaf.entries leaf.count c.loop-i.i c.index-leaf-i.result c.loop-i-test.true (omega arith) c.loop-i.invariant
-          (told_same c.same_bytes.result ((get_or leaf.entries c.loop-i.i c.index-leaf-i.result).key ≡ c.args.key.now) c.same_bytes.ensures.tells_equal_bytes c.if-same_bytes.true);
-    }
 
 pub returns : goal.returns
 returns c =
-    let leaf = c.args.leaf.now in
-    record { has_the_key = lacks_all c.args.key.now (leaf_of leaf).entries c.loop-i.i (let n = length_taken entry_of leaf.entries leaf.count (omega arith) in omega arith) c.loop-i.invariant }
+    let entries = c.args.leaf.now.entries.items in
+    record {
+      has_the_key = found_is c.args.key.now entries c.find.result
+          (find_from_yields_List (λ entry. bytes_eq entry.key c.args.key.now) _ _ c.find.result c.find.ensures.ran (YieldsList-from_slice entries (c.iter.ensures.rest ∙ c.as_slice.ensures.value)) (λ x b q k. search (rules, tests)));
+    }

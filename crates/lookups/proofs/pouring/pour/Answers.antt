@@ -1,11 +1,16 @@
-use Rattle.std.proofs.Common.{◌∙◌, arith}
-use Rattle.lookups.proofs.Pourings.{poured_past, poured_here}
+use Rattle.std.proofs.Common.{ℕ, ◌+◌, ◌-◌, List, ◌++◌, take, ap, ◌∙◌, arith}
+use borrow.Rule.Slice.PartMut.{post_of, Post-is}
+use Rattle.lookups.proofs.Pourings.{poured_over}
 use Rattle.lookups.proofs.pouring.pour.Goals as goal
-use Rattle.lookups.proofs.pouring.pour.Goals.{then-place-k, else-place-k}
 
-pub loop-k-preserved : goal.loop-k-preserved
-loop-k-preserved c =
-    elim c.if-place-k.branch [
-      | then-place-k w ↦ w.list-is ∙ poured_here c.args.place c.loop-k.k c.args.postings.now c.args.list.now c.loop-k.list (let h = c.loop-k-test.true in let p = c.requires.are_there in omega arith) c.loop-k.invariant
-      | else-place-k w ↦ w.list-is ∙ poured_past c.args.place c.loop-k.k c.args.postings.now c.args.list.now c.loop-k.list (let h = c.loop-k-test.true in let p = c.requires.are_there in omega arith) c.loop-k.invariant w.if-place-k.false
-    ]
+pub returns : goal.returns
+returns c =
+    let list = c.args.list.now in
+    let start = c.min-start.result in
+    let count = c.min-count.result in
+    record {
+      writes_what_fits =
+          ap (λ (ys : List ℕ). take start list ++ (ys ++ post_of start (start + count - start) list)) c.copy_from_slice.ensures.after
+          ∙ ap (λ (ys : List ℕ). take start list ++ (take count c.args.postings.now ++ ys)) (Post-is start (start + count) list (omega arith))
+          ∙ poured_over c.args.place start count c.args.postings.now list c.min-start.ensures c.min-count.ensures;
+    }
