@@ -1,185 +1,238 @@
--- Places of keys among accounts, and what a change at a place makes of the entries.
-use Rattle.std.proofs.Common.{◌≡◌, ℕ, suc, ◌+◌, ◌<◌, ◌≤◌, Bool, true, false, cond, not, ◌&&◌, List, [], ◌∷◌, ◌++◌, length, get_or, take, drop, IfOk, Some, Ok, Err, vec_items, Option, Result, Ordering, Less, Equal, Greater, sym, refl, ap, ◌∙◌, arith}
+-- Places of keys among sorted entries, and what stands there and changes there.
+use Rattle.std.proofs.Common.{◌≡◌, ℕ, zero, suc, ◌<◌, ◌≤◌, Bool, true, false, cond, ◌&&◌, ◌⊎◌, List, [], ◌∷◌, ◌++◌, length, get_or, take, drop, Some, None, OnOk, OnErr, Ok, Err, vec_items, Option, Result, Ordering, Less, Equal, Greater, sym, refl, ap, ◌∙◌, subst, inl, inr, arith}
 use Rattle.std.specs.Ordering.{is_eq}
 use Rattle.std.specs.List.{remove, insert}
-use Rattle.std.proofs.lemmas.List.Sums.{prefix_len-le-length}
-use Rattle.std.proofs.lemmas.List.{take_at, drop_at, length-take-le, length-map, take-map, drop-map, get_or-map, map-append, drop_more, drop_all, take-append-drop}
-use Rattle.std.proofs.lemmas.List.Edits.{length-remove}
+use Rattle.std.specs.List.Sorted.{IsPartitionedBy, IsPartitionPoint}
+use Rattle.std.proofs.lemmas.Bool.{true≢false, cases_eq}
+use Rattle.std.proofs.lemmas.List.{take_at, drop_at, length-take-le, length-map, take-map, drop-map, get_or-map, map-append}
 use Rattle.keys.specs.Kinds.{Kind, Field, below}
-use Rattle.keys.proofs.Orders.{below_from_less, below_from_greater, below_asymmetric, not_below_from_same, same_from_order}
-use Rattle.book.specs.Books.{Held, by_order, value_at, put, changed, SortedFrom}
+use Rattle.keys.proofs.Orders.{less_from_below, greater_from_below, below_transitive, trichotomy, order_same}
+use Rattle.book.specs.Books.{Held, by_order, value_at, put, changed, SortedFrom, Sorted}
 use Rattle.book.specs.Entries.{Entry, Entries, is_empty, paged}
-use Rattle.book.proofs.Changes.{sorted_lower, absent}
+use Rattle.book.proofs.Changes.{sorted_lower, changed_sorted}
 use Rattle.book.proofs.Paged.{paged_clear}
 use Rattle.plain_book.specs.declared.account.Account.{Account}
 use Rattle.plain_book.specs.Accounts.{entry_in, held_in, entries_of}
-use Rattle.plain_book.specs.Places.{lower, not_lower, front_of, is_next, next_of, found_in, next_changed, spliced}
+use Rattle.plain_book.specs.Places.{lower, no_held, key_at, StandsAt, GapAt}
 
--- what is made is made with what follows of it
-pub made_so : {A E : Type 0} (r : Result A E) (P Q : A → Type 0) → ((a : A) → P a → Q a) → IfOk r P → IfOk r Q
-made_so (Ok a) P Q f m = f a m
-made_so (Err e) P Q f m = m
+pub held_at : (accounts : List Account) (i : ℕ) (a : Account) → i < length accounts → a ≡ get_or accounts i a → get_or (entries_of accounts) i no_held ≡ held_in a
+held_at accounts i a h e = get_or-map held_in accounts i a no_held h ∙ ap held_in (sym e)
 
-pub held_at : (accounts : List Account) (i : ℕ) (a : Account) (d : Held Entry) → i < length accounts → a ≡ get_or accounts i a → get_or (entries_of accounts) i d ≡ held_in a
-held_at accounts i a d h e = get_or-map held_in accounts i a d h ∙ ap held_in (sym e)
+-- the test of a search among accounts
+abbrev pub is_lower : Kind → Field → Account → Bool
+is_lower kind key a = lower kind (vec_items a.key) key
 
-module _ (kind : Kind) (key : Field) where
-  abbrev pub is_lower : Held Entry → Bool
-  is_lower h = lower kind h.key key
+module _ (kind : Kind) where
+  -- each key of a sorted list is lawful, and below those after it
+  pub lawful_at : (before : Option Field) (list : Entries) (i : ℕ) → SortedFrom kind before list → i < length list → kind.lawful (key_at list i) ≡ true
+  lawful_at before [] i s h = absurd (omega arith)
+  lawful_at before (x ∷ list) zero s h = s.0
+  lawful_at before (x ∷ list) (suc i) s h = lawful_at (Some x.key) list i s.2 (omega arith)
 
-  front_within : (list : Entries) → front_of kind key list ≤ length list
-  front_within list = prefix_len-le-length is_lower list
+  above_at : (b : Field) (list : Entries) (i : ℕ) → kind.lawful b ≡ true → SortedFrom kind (Some b) list → i < length list → below kind b (key_at list i) ≡ true
+  above_at b [] i lb s h = absurd (omega arith)
+  above_at b (x ∷ list) zero lb s h = s.1
+  above_at b (x ∷ list) (suc i) lb s h = above_at b list i lb (sorted_lower kind paged paged_clear (Some b) x.key list lb s.0 s.1 s.2) (omega arith)
 
-  pub within_accounts : (accounts : List Account) (at : ℕ) → at ≡ front_of kind key (entries_of accounts) → at ≤ length accounts
-  within_accounts accounts at e = omega (arith, front_within (entries_of accounts), length-map accounts held_in)
+  rises_at : (before : Option Field) (list : Entries) (i j : ℕ) → SortedFrom kind before list → i < j → j < length list → below kind (key_at list i) (key_at list j) ≡ true
+  rises_at before [] i j s h g = absurd (omega arith)
+  rises_at before (x ∷ list) i zero s h g = absurd (omega arith)
+  rises_at before (x ∷ list) zero (suc j) s h g = above_at x.key list j s.0 s.2 (omega arith)
+  rises_at before (x ∷ list) (suc i) (suc j) s h g = rises_at (Some x.key) list i j s.2 (omega arith) (omega arith)
 
-  pub next_at : (accounts : List Account) (i : ℕ) (e : Account) → i < length accounts → is_next kind key (drop i (entries_of accounts)) ≡ not_lower kind key (vec_items (get_or accounts i e).key)
-  next_at accounts i e h =
-      ap (is_next kind key) (drop_more (entries_of accounts) i (held_in e) (omega (arith, length-map accounts held_in)))
-      ∙ ap (λ (x : Held Entry). not_lower kind key x.key) (get_or-map held_in accounts i e (held_in e) h)
+  module _ (key : Field) (lk : kind.lawful key ≡ true) where
+    lower_from : (a : Field) → kind.lawful a ≡ true → below kind a key ≡ true → lower kind a key ≡ true
+    lower_from a la e = rw (la, lk, e)
 
-  pub next_past : (accounts : List Account) (i : ℕ) → length accounts ≤ i → is_next kind key (drop i (entries_of accounts)) ≡ false
-  next_past accounts i h = ap (is_next kind key) (drop_all i (entries_of accounts) (omega (arith, length-map accounts held_in)))
+    below_from : (a : Field) → lower kind a key ≡ true → below kind a key ≡ true
+    below_from a e = go (kind.lawful a) (kind.lawful key) (below kind a key) e
+      where
+        go : (p q r : Bool) → ((p && q) && r) ≡ true → r ≡ true
+        go true true true e = refl
+        go true true false e = e
+        go true false r e = absurd (true≢false (sym e))
+        go false q r e = absurd (true≢false (sym e))
 
-  -- the entry that is found
-  pub found_there : (seen accounts : List Account) (at : ℕ) (there : Bool) (a : Account) → seen ≡ accounts → at ≡ front_of kind key (entries_of seen) → there ≡ is_next kind key (drop at (entries_of seen)) → there ≡ true → at < length seen → a ≡ get_or accounts at a
-      → entry_in a ≡ found_in kind key (entries_of accounts)
-  found_there seen accounts at there a same e t sure h is =
-      let list = entries_of accounts in
-      let within : at < length accounts = omega (arith, ap length same) in
-      let front : at ≡ front_of kind key list = e ∙ ap (λ (xs : List Account). front_of kind key (entries_of xs)) same in
-      let split : drop at list ≡ held_in a ∷ drop (at + 1) list = drop_more list at (held_in a) (omega (arith, length-map accounts held_in)) ∙ ap (λ (x : Held Entry). x ∷ drop (at + 1) list) (held_at accounts at a (held_in a) within is) in
-      let next : not_lower kind key (vec_items a.key) ≡ true = sym (ap (is_next kind key) split) ∙ (sym (t ∙ ap (λ (xs : List Account). is_next kind key (drop at (entries_of xs))) same) ∙ sure) in
-      sym (ap (λ (k : ℕ). next_of kind key (drop k list)) (sym front) ∙ (ap (next_of kind key) split ∙ ap (λ (b : Bool). cond b (entry_in a) paged.none) next))
+    -- what a search of the accounts by the test `lower` comes to
+    module _ (accounts : List Account) (s : Sorted kind (entries_of accounts)) where
+      abbrev test : Account → Bool
+      test = is_lower kind key
 
-  none_next : (list : Entries) → is_next kind key list ≡ false → next_of kind key list ≡ paged.none
-  none_next [] e = refl
-  none_next (h ∷ rest) e = rw e
+      abbrev list : Entries
+      list = entries_of accounts
 
-  pub found_nowhere : (seen accounts : List Account) (at : ℕ) (there : Bool) → seen ≡ accounts → at ≡ front_of kind key (entries_of seen) → there ≡ is_next kind key (drop at (entries_of seen)) → there ≡ false
-      → found_in kind key (entries_of accounts) ≡ paged.none
-  found_nowhere seen accounts at there same e t not_there =
-      ap (λ (xs : List Account). found_in kind key (entries_of xs)) (sym same)
-      ∙ (ap (λ (k : ℕ). next_of kind key (drop k (entries_of seen))) (sym e) ∙ none_next (drop at (entries_of seen)) (sym t ∙ not_there))
+      key_is : (i : ℕ) (d : Account) → i < length accounts → key_at list i ≡ vec_items (get_or accounts i d).key
+      key_is i d h = ap (λ (x : Held Entry). x.key) (get_or-map held_in accounts i d no_held h)
 
-  -- the account that is lifted out, changed and put back
-  pub line_spliced : (f : Entry → Entry) (seen : List Account) (list rest : Entries) (at : ℕ) (there : Bool) (old new : Held Entry) → entries_of seen ≡ list → at ≡ front_of kind key (entries_of seen) → there ≡ is_next kind key (drop at (entries_of seen)) → (there ≡ true → at < length seen)
-      → old ≡ cond there (get_or list at old) (record { key = key; value = paged.none }) → rest ≡ cond there (remove list at) list → new ≡ record { key = old.key; value = f old.value }
-      → take at rest ++ put paged new.key new.value (drop at rest) ≡ spliced kind key f list
-  line_spliced f seen list rest at there old new same e t within o r n = go there t within o r
-    where
-      front : at ≡ front_of kind key list
-      front = e ∙ ap (front_of kind key) same
+      long : length list ≡ length accounts
+      long = length-map accounts held_in
 
-      inside : at ≤ length list
-      inside = omega (arith, front, front_within list)
+      parted : IsPartitionedBy (is_lower kind key) accounts
+      parted i j d h g e = go (cases_eq i j)
+        where
+          go : (i ≡ j) ⊎ (i ≡ j → ⊥) → test (get_or accounts i d) ≡ true
+          go (inl same) = rw same e
+          go (inr other) =
+              let la : kind.lawful (key_at list i) ≡ true = lawful_at None list i s (omega (arith, long)) in
+              let lb : kind.lawful (key_at list j) ≡ true = lawful_at None list j s (omega (arith, long)) in
+              let up : below kind (key_at list i) (key_at list j) ≡ true = rises_at None list i j s (omega arith) (omega (arith, long)) in
+              let under : below kind (key_at list j) key ≡ true = rw (key_is j d g) (below_from (vec_items (get_or accounts j d).key) e) in
+              rw (← key_is i d (omega arith)) (lower_from (key_at list i) la (below_transitive kind (key_at list i) (key_at list j) key la lb lk up under))
 
-      put_of : Held Entry → Entries → Entries
-      put_of h back = put paged h.key h.value back
+      module _ (at : ℕ) (within : at ≤ length accounts) (d : Account) (point : IsPartitionPoint (λ a. is_lower kind key a ≡ true) (λ a. is_lower kind key a ≡ false) accounts at) where
+        under : (j : ℕ) → j < at → below kind (key_at list j) key ≡ true
+        under j h = rw (key_is j d (omega arith)) (below_from (vec_items (get_or accounts j d).key) (point.0 j d (omega arith) h))
 
-      done : (back : Entries) → next_changed kind key f (drop at list) ≡ back → take at list ++ back ≡ spliced kind key f list
-      done back b = ap (λ (x : Entries). take at list ++ x) (sym b) ∙ ap (λ (k : ℕ). take k list ++ next_changed kind key f (drop k list)) front
+        stands_at : at < length accounts → vec_items (get_or accounts at d).key ≡ key → StandsAt kind key list at
+        stands_at h e = record { in_range = omega (arith, long); has_key = key_is at d h ∙ e; lower_before = under }
 
-      nothing_next : (l : Entries) → is_next kind key l ≡ false → next_changed kind key f l ≡ put paged key (f paged.none) l
-      nothing_next [] z = refl
-      nothing_next (h ∷ l) z = rw z
+        not_under : (j : ℕ) → at ≤ j → j < length list → below kind (key_at list j) key ≡ true → ⊥
+        not_under j h g e =
+            let la : kind.lawful (key_at list j) ≡ true = lawful_at None list j s g in
+            let no : lower kind (key_at list j) key ≡ false = rw (key_is j d (omega (arith, long))) (point.1 j d h (omega (arith, long))) in
+            true≢false (sym (lower_from (key_at list j) la e) ∙ no)
 
-      go : (b : Bool) → b ≡ is_next kind key (drop at (entries_of seen)) → (b ≡ true → at < length seen) → old ≡ cond b (get_or list at old) (record { key = key; value = paged.none }) → rest ≡ cond b (remove list at) list
-          → take at rest ++ put paged new.key new.value (drop at rest) ≡ spliced kind key f list
-      go false t w o r =
-          let next : is_next kind key (drop at list) ≡ false = sym (t ∙ ap (λ (l : Entries). is_next kind key (drop at l)) same) in
-          ap (λ (l : Entries). take at l ++ put_of new (drop at l)) r
-          ∙ (ap (λ (h : Held Entry). take at list ++ put_of h (drop at list)) (n ∙ ap (λ (h : Held Entry). record { key = h.key; value = f h.value }) o)
-          ∙ done (put paged key (f paged.none) (drop at list)) (nothing_next (drop at list) next))
-      go true t w o r =
-          let long : at < length list = omega (arith, w refl, ap length same, length-map seen held_in) in
-          let split : drop at list ≡ old ∷ drop (suc at) list = let one : at + 1 ≡ suc at = omega arith in drop_more list at old long ∙ (ap (λ (h : Held Entry). h ∷ drop (at + 1) list) (sym o) ∙ ap (λ (k : ℕ). old ∷ drop k list) one) in
-          let next : not_lower kind key old.key ≡ true = sym (ap (is_next kind key) split) ∙ sym (t ∙ ap (λ (l : Entries). is_next kind key (drop at l)) same) in
-          let width : length (take at list) ≡ at = length-take-le at list inside in
-          ap (λ (l : Entries). take at l ++ put_of new (drop at l)) r
-          ∙ (ap (λ (l : Entries). l ++ put_of new (drop at (remove list at))) (take_at (take at list) (drop (suc at) list) at width)
-          ∙ (ap (λ (l : Entries). take at list ++ put_of new l) (drop_at (take at list) (drop (suc at) list) at width)
-          ∙ (ap (λ (h : Held Entry). take at list ++ put_of h (drop (suc at) list)) n
-          ∙ done (put paged old.key (f old.value) (drop (suc at) list))
-          (ap (next_changed kind key f) split ∙ ap (λ (b : Bool). cond b (put paged old.key (f old.value) (drop (suc at) list)) (put paged key (f paged.none) (old ∷ drop (suc at) list))) next))))
+        gap_at : (at < length accounts → vec_items (get_or accounts at d).key ≡ key → ⊥) → GapAt kind key list at
+        gap_at other = record { in_range = omega (arith, long); lower_before = under; higher_after = higher }
+          where
+            not_same : (j : ℕ) → at ≤ j → j < length list → key_at list j ≡ key → ⊥
+            not_same j h g e = go (cases_eq at j)
+              where
+                go : (at ≡ j) ⊎ (at ≡ j → ⊥) → ⊥
+                go (inl same) = other (omega (arith, long)) (sym (key_is at d (omega (arith, long))) ∙ (ap (key_at list) same ∙ e))
+                go (inr apart) = not_under at (omega arith) (omega arith) (subst (λ (k : Field). below kind (key_at list at) k ≡ true) e (rises_at None list at j s (omega arith) g))
 
-pub room_left : (list rest : Entries) (at : ℕ) (there : Bool) → at ≤ length list → (there ≡ true → at < length list) → rest ≡ cond there (remove list at) list → at ≤ length rest
-room_left list rest at there h w r = go there w r
-  where
-    go : (b : Bool) → (b ≡ true → at < length list) → rest ≡ cond b (remove list at) list → at ≤ length rest
-    go true w r = omega (arith, ap length r, length-remove list at (w refl), w refl)
-    go false w r = omega (arith, ap length r)
+            higher : (j : ℕ) → at ≤ j → j < length list → below kind key (key_at list j) ≡ true
+            higher j h g = go (trichotomy kind key (key_at list j) lk (lawful_at None list j s g))
+              where
+                go : (below kind key (key_at list j) ≡ true) ⊎ ((key ≡ key_at list j) ⊎ (below kind (key_at list j) key ≡ true)) → below kind key (key_at list j) ≡ true
+                go (inl e) = e
+                go (inr (inl e)) = absurd (not_same j h g (sym e))
+                go (inr (inr e)) = absurd (not_under j h g e)
 
-pub lifted_there : (accounts : List Account) (at : ℕ) (there : Bool) (a : Account) (other : Held Entry) → there ≡ true → at < length accounts → a ≡ get_or accounts at a → held_in a ≡ cond there (get_or (entries_of accounts) at (held_in a)) other
-lifted_there accounts at there a other sure h is = rw sure (sym (held_at accounts at a (held_in a) h is))
+    stands_tail : (x : Held Entry) (list : Entries) (i : ℕ) → StandsAt kind key (x ∷ list) (suc i) → StandsAt kind key list i
+    stands_tail x list i t = record { in_range = omega (arith, t.in_range); has_key = t.has_key; lower_before = λ j h. t.lower_before (suc j) (omega arith) }
 
-pub lifted_rest : (accounts after : List Account) (at : ℕ) (there : Bool) → there ≡ true → after ≡ remove accounts at → entries_of after ≡ cond there (remove (entries_of accounts) at) (entries_of accounts)
-lifted_rest accounts after at there sure e = rw (sure, e) (map-append held_in (take at accounts) (drop (suc at) accounts) ∙ rw (take-map held_in at accounts, drop-map held_in (suc at) accounts))
+    gap_tail : (x : Held Entry) (list : Entries) (i : ℕ) → GapAt kind key (x ∷ list) (suc i) → GapAt kind key list i
+    gap_tail x list i t = record { in_range = omega (arith, t.in_range); lower_before = λ j h. t.lower_before (suc j) (omega arith); higher_after = λ j h g. t.higher_after (suc j) (omega arith) (omega arith) }
 
-pub put_none : (list : Entries) (at : ℕ) (key : Field) (entry : Entry) → is_empty entry ≡ true → list ≡ take at list ++ put paged key entry (drop at list)
-put_none list at key entry e = rw e (sym (take-append-drop at list))
+    gap_front : (x : Held Entry) (list : Entries) → GapAt kind key (x ∷ list) 0 → GapAt kind key list 0
+    gap_front x list t = record { in_range = omega arith; lower_before = λ j h. absurd (omega arith); higher_after = λ j h g. t.higher_after (suc j) (omega arith) (omega arith) }
+
+    -- what stands under the key
+    pub value_there : (before : Option Field) (list : Entries) (at : ℕ) → SortedFrom kind before list → StandsAt kind key list at → value_at kind paged key list ≡ (get_or list at no_held).value
+    value_there before [] at s t = absurd (omega (arith, t.in_range))
+    value_there before (x ∷ list) zero s t = ap (λ (o : Ordering). cond (is_eq o) x.value (value_at kind paged key list)) (order_same kind key x.key lk (sym t.has_key))
+    value_there before (x ∷ list) (suc i) s t =
+        ap (λ (o : Ordering). cond (is_eq o) x.value (value_at kind paged key list)) (greater_from_below kind key x.key lk s.0 (t.lower_before 0 (omega arith)))
+        ∙ value_there (Some x.key) list i s.2 (stands_tail x list i t)
+
+    pub value_absent : (before : Option Field) (list : Entries) (at : ℕ) → SortedFrom kind before list → GapAt kind key list at → value_at kind paged key list ≡ paged.none
+    value_absent before [] at s t = refl
+    value_absent before (x ∷ list) zero s t =
+        ap (λ (o : Ordering). cond (is_eq o) x.value (value_at kind paged key list)) (less_from_below kind key x.key (t.higher_after 0 (omega arith) (omega arith)))
+        ∙ value_absent (Some x.key) list 0 s.2 (gap_front x list t)
+    value_absent before (x ∷ list) (suc i) s t =
+        ap (λ (o : Ordering). cond (is_eq o) x.value (value_at kind paged key list)) (greater_from_below kind key x.key lk s.0 (t.lower_before 0 (omega arith)))
+        ∙ value_absent (Some x.key) list i s.2 (gap_tail x list i t)
+
+    -- what a change under the key makes of the list
+    module _ (f : Entry → Entry) where
+      chosen : (o : Ordering) (x : Held Entry) (list : Entries) → kind.order key x.key ≡ o
+          → changed kind paged key f (x ∷ list) ≡ by_order o (put paged key (f paged.none) (x ∷ list)) (put paged key (f x.value) list) (x ∷ changed kind paged key f list)
+      chosen o x list e = ap (λ (p : Ordering). by_order p (put paged key (f paged.none) (x ∷ list)) (put paged key (f x.value) list) (x ∷ changed kind paged key f list)) e
+
+      pub changed_there : (before : Option Field) (list : Entries) (at : ℕ) → SortedFrom kind before list → StandsAt kind key list at → changed kind paged key f list ≡ take at list ++ put paged key (f (get_or list at no_held).value) (drop (suc at) list)
+      changed_there before [] at s t = absurd (omega (arith, t.in_range))
+      changed_there before (x ∷ list) zero s t = chosen Equal x list (order_same kind key x.key lk (sym t.has_key))
+      changed_there before (x ∷ list) (suc i) s t =
+          chosen Greater x list (greater_from_below kind key x.key lk s.0 (t.lower_before 0 (omega arith)))
+          ∙ ap (λ (l : Entries). x ∷ l) (changed_there (Some x.key) list i s.2 (stands_tail x list i t))
+
+      pub changed_gap : (before : Option Field) (list : Entries) (at : ℕ) → SortedFrom kind before list → GapAt kind key list at → changed kind paged key f list ≡ take at list ++ put paged key (f paged.none) (drop at list)
+      changed_gap before [] zero s t = refl
+      changed_gap before [] (suc i) s t = refl
+      changed_gap before (x ∷ list) zero s t = chosen Less x list (less_from_below kind key x.key (t.higher_after 0 (omega arith) (omega arith)))
+      changed_gap before (x ∷ list) (suc i) s t =
+          chosen Greater x list (greater_from_below kind key x.key lk s.0 (t.lower_before 0 (omega arith)))
+          ∙ ap (λ (l : Entries). x ∷ l) (changed_gap (Some x.key) list i s.2 (gap_tail x list i t))
+
+      pub still_sorted : (list : Entries) → Sorted kind list → Sorted kind (changed kind paged key f list)
+      still_sorted list s = changed_sorted kind paged paged_clear None key f list tt lk refl s
+
+    -- an account lifted out
+    pub lifted : (list : Entries) (at : ℕ) → Sorted kind list → StandsAt kind key list at → Sorted kind (remove list at)
+    lifted list at s t = subst (Sorted kind) (changed_there (λ _. paged.none) None list at s t) (still_sorted (λ _. paged.none) list s)
+
+gap_past : (kind : Kind) (key : Field) (lk : kind.lawful key ≡ true) (accounts : List Account) (s : Sorted kind (entries_of accounts)) (at : ℕ) → at ≤ length accounts → IsPartitionPoint (λ a. is_lower kind key a ≡ true) (λ a. is_lower kind key a ≡ false) accounts at → length accounts ≤ at
+    → GapAt kind key (entries_of accounts) at
+gap_past kind key lk [] s at within point past = record { in_range = within; lower_before = λ j h. absurd (omega arith); higher_after = λ j h g. absurd (omega arith) }
+gap_past kind key lk (a ∷ rest) s at within point past = gap_at kind key lk (a ∷ rest) s at within a point (λ h e. omega arith)
+
+-- what a search of the accounts of a book finds
+module _ (kind : Kind) (key : Field) (lk : kind.lawful key ≡ true) (seen accounts : List Account) (list : Entries) (same : seen ≡ accounts) (view : entries_of accounts ≡ list) (sorted : Sorted kind (entries_of accounts)) (at : ℕ) (within : at ≤ length seen)
+    (search_ends : IsPartitionedBy (is_lower kind key) seen → IsPartitionPoint (λ a. is_lower kind key a ≡ true) (λ a. is_lower kind key a ≡ false) seen at) where
+  sorted_seen : Sorted kind (entries_of seen)
+  sorted_seen = subst (λ (xs : List Account). Sorted kind (entries_of xs)) (sym same) sorted
+
+  point : IsPartitionPoint (λ a. is_lower kind key a ≡ true) (λ a. is_lower kind key a ≡ false) seen at
+  point = search_ends (parted kind key lk seen sorted_seen)
+
+  shown : entries_of seen ≡ list
+  shown = ap entries_of same ∙ view
+
+  pub found_standing : (a : Account) → at < length seen → a ≡ get_or seen at a → vec_items a.key ≡ key → StandsAt kind key list at
+  found_standing a h is e = subst (λ (l : Entries). StandsAt kind key l at) shown (stands_at kind key lk seen sorted_seen at within a point h (ap (λ (x : Account). vec_items x.key) (sym is) ∙ e))
+
+  pub found_other : (a : Account) → a ≡ get_or seen at a → (vec_items a.key ≡ key → ⊥) → GapAt kind key list at
+  found_other a is other = subst (λ (l : Entries). GapAt kind key l at) shown (gap_at kind key lk seen sorted_seen at within a point (λ h e. other (ap (λ (x : Account). vec_items x.key) is ∙ e)))
+
+  pub found_past : length seen ≤ at → GapAt kind key list at
+  found_past past = subst (λ (l : Entries). GapAt kind key l at) shown (gap_past kind key lk seen sorted_seen at within point past)
+
+pub entries_removed : (accounts : List Account) (at : ℕ) → entries_of (remove accounts at) ≡ remove (entries_of accounts) at
+entries_removed accounts at = map-append held_in (take at accounts) (drop (suc at) accounts) ∙ rw (take-map held_in at accounts, drop-map held_in (suc at) accounts)
 
 pub put_some : (accounts after : List Account) (at : ℕ) (a : Account) → is_empty (entry_in a) ≡ false → after ≡ insert accounts at a → entries_of after ≡ take at (entries_of accounts) ++ put paged (vec_items a.key) (entry_in a) (drop at (entries_of accounts))
 put_some accounts after at a some e = rw (some, e) (map-append held_in (take at accounts) (a ∷ drop at accounts) ∙ rw (take-map held_in at accounts, drop-map held_in at accounts))
 
--- in a sorted book a place is the key's place in the book
-module _ (kind : Kind) where
-  both_lawful : (a b : Field) (t : Bool) → kind.lawful a ≡ true → kind.lawful b ≡ true → ((kind.lawful a && kind.lawful b) && t) ≡ t
-  both_lawful a b t la lb = rw (la, lb)
+-- an account lifted out, changed and put back at its place, or a new one put in a gap
+module _ (kind : Kind) (key : Field) (lk : kind.lawful key ≡ true) (accounts : List Account) (list : Entries) (view : entries_of accounts ≡ list) (sorted : Sorted kind (entries_of accounts)) (at : ℕ) where
+  list_sorted : Sorted kind list
+  list_sorted = subst (Sorted kind) view sorted
 
-  spliced_more : (key : Field) (f : Entry → Entry) (h : Held Entry) (rest : Entries) → lower kind h.key key ≡ true → spliced kind key f (h ∷ rest) ≡ h ∷ spliced kind key f rest
-  spliced_more key f h rest e =
-      let one : 1 + front_of kind key rest ≡ suc (front_of kind key rest) = omega arith in
-      ap (λ (b : Bool). at (cond b (1 + front_of kind key rest) 0)) e ∙ ap at one
-    where
-      at : ℕ → Entries
-      at k = take k (h ∷ rest) ++ next_changed kind key f (drop k (h ∷ rest))
+  module _ (stands : StandsAt kind key list at) (after : List Account) (removed : after ≡ remove accounts at) where
+    lifted_is : entries_of after ≡ remove list at
+    lifted_is = ap entries_of removed ∙ (entries_removed accounts at ∙ ap (λ (l : Entries). remove l at) view)
 
-  spliced_here : (key : Field) (f : Entry → Entry) (h : Held Entry) (rest : Entries) → lower kind h.key key ≡ false → spliced kind key f (h ∷ rest) ≡ next_changed kind key f (h ∷ rest)
-  spliced_here key f h rest e = ap (λ (b : Bool). at (cond b (1 + front_of kind key rest) 0)) e
-    where
-      at : ℕ → Entries
-      at k = take k (h ∷ rest) ++ next_changed kind key f (drop k (h ∷ rest))
+    pub lifted_sorted : Sorted kind (entries_of after)
+    lifted_sorted = subst (Sorted kind) (sym lifted_is) (lifted kind key lk list at list_sorted stands)
 
-  pub splice_is_change : (before : Option Field) (key : Field) (f : Entry → Entry) (list : Entries) → kind.lawful key ≡ true → SortedFrom kind before list → spliced kind key f list ≡ changed kind paged key f list
-  splice_is_change before key f [] lk s = refl
-  splice_is_change before key f (h ∷ rest) lk s = go (kind.order key h.key) refl (splice_is_change (Some h.key) key f rest lk s.2)
-    where
-      go : (o : Ordering) → kind.order key h.key ≡ o → spliced kind key f rest ≡ changed kind paged key f rest
-          → spliced kind key f (h ∷ rest) ≡ by_order o (put paged key (f paged.none) (h ∷ rest)) (put paged key (f h.value) rest) (h ∷ changed kind paged key f rest)
-      go Less e ih =
-          let under = below_from_less kind key h.key e in
-          spliced_here key f h rest (both_lawful h.key key (below kind h.key key) s.0 lk ∙ below_asymmetric kind key h.key lk s.0 under)
-          ∙ ap (λ (b : Bool). cond b (put paged h.key (f h.value) rest) (put paged key (f paged.none) (h ∷ rest))) (both_lawful key h.key (not (below kind key h.key)) lk s.0 ∙ ap not under)
-      go Equal e ih =
-          let same = same_from_order kind key h.key lk s.0 e in
-          spliced_here key f h rest (both_lawful h.key key (below kind h.key key) s.0 lk ∙ not_below_from_same kind h.key key s.0 (sym same))
-          ∙ (ap (λ (b : Bool). cond b (put paged h.key (f h.value) rest) (put paged key (f paged.none) (h ∷ rest))) (both_lawful key h.key (not (below kind key h.key)) lk s.0 ∙ ap not (not_below_from_same kind key h.key lk same))
-          ∙ ap (λ (k : Field). put paged k (f h.value) rest) (sym same))
-      go Greater e ih =
-          spliced_more key f h rest (both_lawful h.key key (below kind h.key key) s.0 lk ∙ below_from_greater kind key h.key lk s.0 e)
-          ∙ ap (λ (l : Entries). h ∷ l) ih
+    pub changed_lifted : (f : Entry → Entry) (old new : Account) → old ≡ get_or accounts at old → held_in new ≡ record { key = vec_items old.key; value = f (entry_in old) }
+        → take at (entries_of after) ++ put paged (vec_items new.key) (entry_in new) (drop at (entries_of after)) ≡ changed kind paged key f list
+    changed_lifted f old new o n =
+        let within : at < length accounts = omega (arith, stands.in_range, ap length view, length-map accounts held_in) in
+        let held : get_or list at no_held ≡ held_in old = sym (ap (λ (l : Entries). get_or l at no_held) view) ∙ held_at accounts at old within o in
+        let named : vec_items old.key ≡ key = sym (ap (λ (h : Held Entry). h.key) held) ∙ stands.has_key in
+        let is : held_in new ≡ record { key = key; value = f (get_or list at no_held).value } = n ∙ (ap (λ (k : Field). record { key = k; value = f (entry_in old) }) named ∙ ap (λ (h : Held Entry). record { key = key; value = f h.value }) (sym held)) in
+        let long : length (take at list) ≡ at = length-take-le at list (omega (arith, stands.in_range)) in
+        let front : take at (entries_of after) ≡ take at list = ap (take at) lifted_is ∙ take_at (take at list) (drop (suc at) list) at long in
+        let back : drop at (entries_of after) ≡ drop (suc at) list = ap (drop at) lifted_is ∙ drop_at (take at list) (drop (suc at) list) at long in
+        ap (λ (l : Entries). l ++ put paged (vec_items new.key) (entry_in new) (drop at (entries_of after))) front
+        ∙ (ap (λ (l : Entries). take at list ++ put paged (vec_items new.key) (entry_in new) l) back
+        ∙ (ap (λ (h : Held Entry). take at list ++ put paged h.key h.value (drop (suc at) list)) is ∙ sym (changed_there kind key lk f None list at list_sorted stands)))
 
-  found_more : (key : Field) (h : Held Entry) (rest : Entries) → lower kind h.key key ≡ true → found_in kind key (h ∷ rest) ≡ found_in kind key rest
-  found_more key h rest e =
-      let one : 1 + front_of kind key rest ≡ suc (front_of kind key rest) = omega arith in
-      ap (λ (b : Bool). next_of kind key (drop (cond b (1 + front_of kind key rest) 0) (h ∷ rest))) e ∙ ap (λ (k : ℕ). next_of kind key (drop k (h ∷ rest))) one
+  pub changed_new : (f : Entry → Entry) (old new : Account) → GapAt kind key list at → held_in old ≡ record { key = key; value = paged.none } → held_in new ≡ record { key = vec_items old.key; value = f (entry_in old) }
+      → take at (entries_of accounts) ++ put paged (vec_items new.key) (entry_in new) (drop at (entries_of accounts)) ≡ changed kind paged key f list
+  changed_new f old new gap o n =
+      ap (λ (l : Entries). take at l ++ put paged (vec_items new.key) (entry_in new) (drop at l)) view
+      ∙ (ap (λ (h : Held Entry). take at list ++ put paged h.key h.value (drop at list)) (n ∙ ap (λ (h : Held Entry). record { key = h.key; value = f h.value }) o)
+      ∙ sym (changed_gap kind key lk f None list at list_sorted gap))
 
-  found_here : (key : Field) (h : Held Entry) (rest : Entries) → lower kind h.key key ≡ false → found_in kind key (h ∷ rest) ≡ next_of kind key (h ∷ rest)
-  found_here key h rest e = ap (λ (b : Bool). next_of kind key (drop (cond b (1 + front_of kind key rest) 0) (h ∷ rest))) e
+  pub changed_sorted_here : (f : Entry → Entry) (entries : Entries) → entries ≡ changed kind paged key f list → Sorted kind entries
+  changed_sorted_here f entries e = subst (Sorted kind) (sym e) (still_sorted kind key lk f list list_sorted)
 
-  pub found_is_value : (before : Option Field) (key : Field) (list : Entries) → kind.lawful key ≡ true → SortedFrom kind before list → found_in kind key list ≡ value_at kind paged key list
-  found_is_value before key [] lk s = refl
-  found_is_value before key (h ∷ rest) lk s = go (kind.order key h.key) refl (found_is_value (Some h.key) key rest lk s.2)
-    where
-      go : (o : Ordering) → kind.order key h.key ≡ o → found_in kind key rest ≡ value_at kind paged key rest → found_in kind key (h ∷ rest) ≡ cond (is_eq o) h.value (value_at kind paged key rest)
-      go Less e ih =
-          let under = below_from_less kind key h.key e in
-          found_here key h rest (both_lawful h.key key (below kind h.key key) s.0 lk ∙ below_asymmetric kind key h.key lk s.0 under)
-          ∙ (ap (λ (b : Bool). cond b h.value paged.none) (both_lawful key h.key (not (below kind key h.key)) lk s.0 ∙ ap not under)
-          ∙ sym (absent kind paged paged_clear key rest lk (sorted_lower kind paged paged_clear (Some key) h.key rest lk s.0 under s.2)))
-      go Equal e ih =
-          let same = same_from_order kind key h.key lk s.0 e in
-          found_here key h rest (both_lawful h.key key (below kind h.key key) s.0 lk ∙ not_below_from_same kind h.key key s.0 (sym same))
-          ∙ ap (λ (b : Bool). cond b h.value paged.none) (both_lawful key h.key (not (below kind key h.key)) lk s.0 ∙ ap not (not_below_from_same kind key h.key lk same))
-      go Greater e ih = found_more key h rest (both_lawful h.key key (below kind h.key key) s.0 lk ∙ below_from_greater kind key h.key lk s.0 e) ∙ ih
+-- what holds whether a call gave a value or failed
+pub either_way : {A E P Q R : Type 0} (r : Result A E) → OnOk r P → OnErr r Q → (P → R) → (Q → R) → R
+either_way (Ok value) p q f g = f p
+either_way (Err error) p q f g = g q

@@ -17,19 +17,21 @@ MergedAs answer before (Ok keys) after = (answer ≡ Accepted after) × (keys �
 MergedAs answer before (Err (Refuses refusal)) after = (answer ≡ Refused (number_of refusal) (place_of refusal)) × (after ≡ before)
 MergedAs answer before (Err OutOfMemory) after = Unit {0}
 
--- a lookup answers and fills its list as it should; refused or out of memory, it leaves the list
+-- a call answers by its numbers and fills what it was lent as it should; refused or out of memory, it leaves that
+abbrev pub FilledAs : {A N : Type 0} → (said : N → A) → Answer A → (filled before : List ℕ) → Result N Failure → (after : List ℕ) → Type 0
+FilledAs said answer filled before (Ok numbers) after = (answer ≡ Accepted (said numbers)) × (after ≡ filled)
+FilledAs said answer filled before (Err (Refuses refusal)) after = (answer ≡ Refused (number_of refusal) (place_of refusal)) × (after ≡ before)
+FilledAs said answer filled before (Err OutOfMemory) after = after ≡ before
+
+-- a lookup and its list
 abbrev pub LookedAs : Answer looking.Looked → (filled before : List ℕ) → Result Looked Failure → (after : List ℕ) → Type 0
-LookedAs answer filled before (Ok looked) after = (answer ≡ Accepted (record { total = looked.total; written = looked.written })) × (after ≡ filled)
-LookedAs answer filled before (Err (Refuses refusal)) after = (answer ≡ Refused (number_of refusal) (place_of refusal)) × (after ≡ before)
-LookedAs answer filled before (Err OutOfMemory) after = after ≡ before
+LookedAs = FilledAs (λ looked. record { total = looked.total; written = looked.written })
+
+-- a listing and its buffer
+abbrev pub ListedAs : Answer looking.Listing → (filled before : List ℕ) → Result Listing Failure → (after : List ℕ) → Type 0
+ListedAs = FilledAs (λ listing. record { total = listing.total; rows = listing.rows })
 
 -- the account of an entry: none if the entry is empty
 abbrev pub AccountIs : Entry → Option (Bor Account) → Type 0
 AccountIs entry None = entry ≡ paged.none
 AccountIs entry (Some account) = entry_in account.now ≡ entry
-
--- a listing answers and fills its buffer as it should; refused or out of memory, it leaves the buffer
-abbrev pub ListedAs : Answer looking.Listing → (filled before : List ℕ) → Result Listing Failure → (after : List ℕ) → Type 0
-ListedAs answer filled before (Ok listing) after = (answer ≡ Accepted (record { total = listing.total; rows = listing.rows })) × (after ≡ filled)
-ListedAs answer filled before (Err (Refuses refusal)) after = (answer ≡ Refused (number_of refusal) (place_of refusal)) × (after ≡ before)
-ListedAs answer filled before (Err OutOfMemory) after = after ≡ before

@@ -1,6 +1,5 @@
 pub mod Accounts
 pub mod Places
-pub mod Kept
 pub mod Lines
 pub mod Answers
-pub mod Listings
+pub mod Printing

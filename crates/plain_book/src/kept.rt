@@ -1,106 +1,121 @@
-ghost use Rattle.std.specs.Prelude.{◌≡◌, ◌<◌, ◌≤◌, true, [], ◌++◌, length, take, drop, IfOk, if◌then◌else◌, vec_len, OnOk, slice_index_or};
-ghost use Rattle.std.specs.List.{remove};
-ghost use Rattle.book.specs.Books.{has, put};
-ghost use Rattle.book.specs.Merging.{applied};
+ghost use Rattle.std.specs.Prelude.{◌≡◌, ◌≤◌, [], ◌++◌, length, take, drop, IfOk, IfErr, OnOk, OnErr};
+ghost use Rattle.book.specs.Books.{has, put, value_at};
+ghost use Rattle.book.specs.Merging.{line_taken};
 ghost use Rattle.book.specs.Entries.{paged, postings_in};
-ghost use Rattle.plain_book.specs.Accounts.{entry_in, held_in};
-ghost use Rattle.plain_book.specs.Places.{found_in, spliced};
-ghost use Rattle.plain_book.specs.Kept.{entries_in};
+ghost use Rattle.plain_book.specs.Accounts.{entry_in, entries_of};
+ghost use Rattle.plain_book.specs.Places.{lower, StandsAt, GapAt};
+ghost use Rattle.plain_book.specs.Answers.{AccountIs};
 
 use crate::account::Account;
-use crate::place::{Place, find};
-use batches::{Line, Sign};
-use keys::KeyKind;
+use batches::Line;
+use keys::{KeyKind, LawfulKey};
 use std::alloc::{AllocError, Global};
+use std::marker::{Model, PhantomData};
 
-/// A book in memory: accounts in the order of their keys.
+/// A book in memory over keys of one kind: accounts in the order of their keys.
 #[derive(Drop)]
-pub struct PlainBook {
+pub struct PlainBook<K: KeyKind> {
     pub(crate) accounts: Vec<Account>,
+    of: PhantomData<K>,
 }
 
-// An account after a line.
-fn taken(account: Account, heap: Global, line: Line) -> Result<Account, AllocError>
-    ensures { IfOk result (λ a. held_in a ≡ record { key = account.key.items; value = applied paged line.sign line.number (entry_in account) }) }
+impl<K: KeyKind> Model for PlainBook<K> {
+    ghost use Rattle.book.specs.Books.{Sorted};
+    ghost use Rattle.book.specs.Entries.{Entries};
+    ghost use Rattle.plain_book.specs.Accounts.{entries_of};
+
+    ghost Value = { Entries };
+
+    ghost view = { λ book. entries_of book.accounts.items };
+
+    ghost invariant = { λ book. Sorted K.kind (entries_of book.accounts.items) };
+}
+
+// An account put at a place, unless it is empty.
+fn put_at(accounts: &mut Vec<Account>, at: usize, account: Account) -> Result<(), AllocError>
+    requires { at ≤ length accounts.old.items }
+    ensures put { OnOk result (entries_of accounts.new.items ≡ take at (entries_of accounts.old.items) ++ put paged account.key.items (entry_in account) (drop at (entries_of accounts.old.items))) }
+    ensures out_of_memory { OnErr result (accounts.new.items ≡ accounts.old.items) }
 {
-    match line.sign {
-        Sign::Posting => account.posted(heap, line.number),
-        Sign::Cancelling => account.cancelled(line.number),
+    if account.is_empty() {
+        return Ok(());
     }
+    accounts.insert(at, account)?;
+    Ok(())
 }
 
-impl PlainBook {
+impl<K: KeyKind> PlainBook<K> {
     /// A book without postings.
-    pub fn new(heap: Global) -> PlainBook
-        ensures is_empty { entries_in result ≡ [] }
+    pub fn new(heap: Global) -> PlainBook<K>
+        ensures is_empty { result ≡ [] }
     {
         PlainBook {
             accounts: Vec::new(heap),
+            of: PhantomData,
         }
     }
 
-    // The account at a place, taken out, or a new one.
-    fn lifted(&mut self, heap: Global, key: &[u8], place: Place) -> Result<Account, AllocError>
-        requires { place.there ≡ true → place.at < vec_len self.old.accounts }
-        ensures account { IfOk result (λ a. held_in a ≡ (if place.there then slice_index_or (entries_in self.old) place.at (held_in a) else (record { key = key.entry.now; value = paged.none }))) }
-        ensures rest { IfOk result (λ a. entries_in self.new ≡ (if place.there then remove (entries_in self.old) place.at else entries_in self.old)) }
+    // Where a key stands among the accounts, or where it would.
+    fn place_of(&self, key: &LawfulKey<K>) -> Result<usize, usize>
+        ensures stands { IfOk result (StandsAt K.kind key.now.field.now self.now) }
+        ensures absent { IfErr result (GapAt K.kind key.now.field.now self.now) }
     {
-        if place.there {
-            Ok(self.accounts.remove(place.at))
-        } else {
-            Account::bare(heap, key)
+        let accounts = self.accounts.as_slice();
+        let at = accounts.partition_point(|account| account.lies_below(key));
+        match accounts.get(at) {
+            Some(account) if account.key.as_slice() == key.field => Ok(at),
+            _ => Err(at),
         }
     }
 
-    // An account put at a place, unless it is empty.
-    fn put_back(&mut self, at: usize, account: Account) -> Result<(), AllocError>
-        requires { at ≤ vec_len self.old.accounts }
-        ensures { OnOk result (entries_in self.new ≡ take at (entries_in self.old) ++ put paged account.key.items (entry_in account) (drop at (entries_in self.old))) }
-    {
-        if account.is_empty() {
-            return Ok(());
-        }
-        self.accounts.insert(at, account)?;
-        Ok(())
-    }
-
-    // A line carried out under its key.
-    pub(crate) fn take_line<K: KeyKind>(
+    // A line carried out under its key. Where memory runs out, the key's account is lost.
+    pub(crate) fn take_line(
         &mut self,
         heap: Global,
-        key: &[u8],
+        key: &LawfulKey<K>,
         line: Line,
     ) -> Result<(), AllocError>
-        ensures { OnOk result (entries_in self.new ≡ spliced K.KeyKind.kind key.now (applied paged line.sign line.number) (entries_in self.old)) }
+        ensures { OnOk result (self.new ≡ line_taken K.kind paged (record { key = key.now.field.now; sign = line.sign; number = line.number }) self.old) }
     {
-        let place = find::<K>(self.accounts.as_slice(), key);
-        let old = self.lifted(heap, key, place)?;
-        let new = taken(old, heap, line)?;
-        self.put_back(place.at, new)?;
-        Ok(())
+        match self.place_of(key) {
+            Ok(at) => {
+                let account = self.accounts.remove(at).taken(heap, line)?;
+                put_at(&mut self.accounts, at, account)
+            }
+            Err(at) => {
+                let account = Account::bare(heap, key.field)?.taken(heap, line)?;
+                put_at(&mut self.accounts, at, account)
+            }
+        }
+    }
+
+    // The account of a lawful key, if it has postings.
+    pub(crate) fn account_there(&self, key: &LawfulKey<K>) -> Option<&Account>
+        ensures { AccountIs (value_at K.kind paged key.now.field.now self.now) result }
+    {
+        match self.place_of(key) {
+            Ok(at) => Some(&self.accounts[at]),
+            Err(_) => None,
+        }
     }
 
     // Whether a key has a number.
-    pub(crate) fn stands<K: KeyKind>(&self, key: &[u8], n: u64) -> bool
-        ensures { result ≡ has n (postings_in (found_in K.KeyKind.kind key.now (entries_in self.now))) }
+    pub(crate) fn stands(&self, key: &LawfulKey<K>, n: u64) -> bool
+        ensures { result ≡ has n (postings_in (value_at K.kind paged key.now.field.now self.now)) }
     {
-        let place = find::<K>(self.accounts.as_slice(), key);
-        place.there && self.accounts[place.at].holds(n)
+        match self.account_there(key) {
+            Some(account) => account.holds(n),
+            None => false,
+        }
     }
 
     // All postings of a key, the newest first.
-    pub(crate) fn postings<K: KeyKind>(
-        &self,
-        heap: Global,
-        key: &[u8],
-    ) -> Result<Vec<u64>, AllocError>
-        ensures { IfOk result (λ v. v.items ≡ postings_in (found_in K.KeyKind.kind key.now (entries_in self.now))) }
+    pub(crate) fn postings(&self, heap: Global, key: &LawfulKey<K>) -> Result<Vec<u64>, AllocError>
+        ensures { IfOk result (λ v. v.items ≡ postings_in (value_at K.kind paged key.now.field.now self.now)) }
     {
-        let place = find::<K>(self.accounts.as_slice(), key);
-        if place.there {
-            self.accounts[place.at].postings(heap)
-        } else {
-            Ok(Vec::new(heap))
+        match self.account_there(key) {
+            Some(account) => account.postings(heap),
+            None => Ok(Vec::new(heap)),
         }
     }
 }

@@ -1,36 +1,27 @@
-ghost use Rattle.std.specs.Prelude.{◌≡◌, ◌+◌, ◌-◌, ◌*◌, ◌/◌, ◌≤◌, min, [], ◌∷◌, ◌++◌, length, take, drop, IfOk, OnOk};
+ghost use Rattle.std.specs.Prelude.{◌≡◌, ◌-◌, ◌*◌, ◌/◌, true, min, [], ◌∷◌, ◌++◌, length, take, drop, IfOk, OnOk};
 ghost use Rattle.std.specs.List.{flat_map};
-ghost use Rattle.numbers.specs.BigEndian.{bytes_of};
-ghost use Rattle.book.specs.Books.{Sorted};
 ghost use Rattle.book.specs.Entries.{book_of, postings_in};
-ghost use Rattle.book.specs.Looking.{rows_under, listed_bytes, list_answer, buffer_after_list};
-ghost use Rattle.plain_book.specs.Accounts.{entry_in, held_in, entries_of};
-ghost use Rattle.plain_book.specs.Kept.{entries_in};
-ghost use Rattle.plain_book.specs.Listings.{reached, bytes_found};
+ghost use Rattle.book.specs.Looking.{within, rows_under, listed, listed_bytes, list_answer, buffer_after_list};
+ghost use Rattle.plain_book.specs.Accounts.{entry_in, held_in};
 ghost use Rattle.plain_book.specs.Answers.{ListedAs};
 
 use crate::account::Account;
 use crate::failure::Failure;
 use crate::kept::PlainBook;
 use crate::looked::Listing;
-use crate::place::lies_below;
-use keys::KeyKind;
+use keys::{KeyKind, LawfulKey};
 use refusals::Refusal;
 use std::alloc::{AllocError, Global};
+use std::marker::PhantomData;
 
 /// The bytes of a row of a listing.
 const ROW: usize = 32;
 
-fn spelled(n: u64) -> [u8; 8]
-    ensures { result ≡ bytes_of 8 n }
+// Whether a key lies from the first to the second.
+fn is_within<K: KeyKind>(key: &LawfulKey<K>, first: &LawfulKey<K>, second: &LawfulKey<K>) -> bool
+    ensures { result ≡ within K.kind first.now.field.now second.now.field.now key.now.field.now }
 {
-    n.to_be_bytes()
-}
-
-fn reaches<K: KeyKind>(first: &[u8], second: &[u8], key: &[u8]) -> bool
-    ensures { result ≡ reached K.KeyKind.kind first.now second.now key.now }
-{
-    !lies_below::<K>(key, first) && !lies_below::<K>(second, key)
+    !key.is_below(first) && !second.is_below(key)
 }
 
 // The rows of an account, behind those before.
@@ -38,53 +29,32 @@ fn add_rows(account: &Account, heap: Global, all: &mut Vec<u8>) -> Result<(), Al
     ensures { OnOk result (all.new.items ≡ all.old.items ++ flat_map listed_bytes (rows_under (record { key = account.now.key.items; value = postings_in (entry_in account.now) }))) }
 {
     let postings = account.postings(heap)?;
-    for i in 0..postings.len() {
+    for posting in postings.iter() {
         all.extend_from_slice(account.key.as_slice())?;
-        all.extend_from_slice(&spelled(postings[i]))?;
+        all.extend_from_slice(&posting.to_be_bytes())?;
     }
     Ok(())
 }
 
-// The rows of an account if its key is reached.
-fn add_if_reached<K: KeyKind>(
+// The rows of an account if its key lies from the first to the second.
+fn add_if_within<K: KeyKind>(
     account: &Account,
     heap: Global,
-    first: &[u8],
-    second: &[u8],
+    first: &LawfulKey<K>,
+    second: &LawfulKey<K>,
     all: &mut Vec<u8>,
 ) -> Result<(), AllocError>
-    ensures { OnOk result (all.new.items ≡ all.old.items ++ bytes_found K.KeyKind.kind first.now second.now (book_of (held_in account.now ∷ []))) }
+    requires { K.kind.lawful account.now.key.items ≡ true }
+    ensures { OnOk result (all.new.items ≡ all.old.items ++ flat_map listed_bytes (listed K.kind (book_of (held_in account.now ∷ [])) first.now.field.now second.now.field.now)) }
 {
-    if !reaches::<K>(first, second, account.key.as_slice()) {
-        return Ok(());
+    let key = LawfulKey {
+        field: account.key.as_slice(),
+        kind: PhantomData,
+    };
+    if is_within(&key, first, second) {
+        return add_rows(account, heap, all);
     }
-    add_rows(account, heap, all)?;
     Ok(())
-}
-
-// The bytes of all rows from one key to another.
-fn rows_between<K: KeyKind>(
-    accounts: &[Account],
-    heap: Global,
-    first: &[u8],
-    second: &[u8],
-) -> Result<Vec<u8>, AllocError>
-    ensures { IfOk result (λ v. v.items ≡ bytes_found K.KeyKind.kind first.now second.now (book_of (entries_of accounts.now))) }
-{
-    let mut all = Vec::new(heap);
-    for account in accounts.iter() {
-        add_if_reached::<K>(account, heap, first, second, &mut all)?;
-    }
-    Ok(all)
-}
-
-fn copy_rows(buffer: &mut [u8], rows: &[u8], from: usize, size: usize)
-    requires { (from + size ≤ length rows.now) × (size ≤ length buffer.old) }
-    ensures { buffer.new ≡ take size (drop from rows.now) ++ drop size buffer.old }
-{
-    for i in 0..size {
-        buffer[i] = rows[from + i];
-    }
 }
 
 // Skips rows and writes as many whole ones as fit.
@@ -94,16 +64,31 @@ fn show(rows: &[u8], skip: usize, buffer: &mut [u8]) -> Listing
     ensures after { buffer.new ≡ take (32 * result.rows) (drop (32 * skip) rows.now) ++ drop (32 * result.rows) buffer.old }
 {
     let total = rows.len() / ROW;
-    let count = total.saturating_sub(skip).min(buffer.len() / ROW);
-    if count > 0 {
-        copy_rows(buffer, rows, ROW * skip, ROW * count);
-    }
+    let left = &rows[ROW * skip.min(total)..];
+    let count = (left.len() / ROW).min(buffer.len() / ROW);
+    buffer[..ROW * count].copy_from_slice(&left[..ROW * count]);
     Listing { total, rows: count }
 }
 
-impl PlainBook {
+impl<K: KeyKind> PlainBook<K> {
+    // The bytes of all rows from one key to another.
+    fn rows_between(
+        &self,
+        heap: Global,
+        first: &LawfulKey<K>,
+        second: &LawfulKey<K>,
+    ) -> Result<Vec<u8>, AllocError>
+        ensures { IfOk result (λ v. v.items ≡ flat_map listed_bytes (listed K.kind (book_of self.now) first.now.field.now second.now.field.now)) }
+    {
+        let mut all = Vec::new(heap);
+        for account in self.accounts.iter() {
+            add_if_within(account, heap, first, second, &mut all)?;
+        }
+        Ok(all)
+    }
+
     /// Writes the postings of the keys from the first to the second as rows of 32 bytes.
-    pub fn list<K: KeyKind>(
+    pub fn list(
         &self,
         heap: Global,
         first: &[u8],
@@ -111,7 +96,7 @@ impl PlainBook {
         skip: usize,
         buffer: &mut [u8],
     ) -> Result<Listing, Failure>
-        ensures lists_as_said { Sorted K.KeyKind.kind (entries_in self.now) → ListedAs (list_answer K.KeyKind.kind (book_of (entries_in self.now)) first.now second.now skip (length buffer.old)) (buffer_after_list K.KeyKind.kind (book_of (entries_in self.now)) first.now second.now skip buffer.old) buffer.old result buffer.new }
+        ensures lists_as_said { ListedAs (list_answer K.kind (book_of self.now) first.now second.now skip (length buffer.old)) (buffer_after_list K.kind (book_of self.now) first.now second.now skip buffer.old) buffer.old result buffer.new }
     {
         let Some(low) = K::check(first) else {
             return Err(Failure::Refuses(Refusal::Key(0)));
@@ -119,9 +104,17 @@ impl PlainBook {
         let Some(high) = K::check(second) else {
             return Err(Failure::Refuses(Refusal::Key(1)));
         };
-        match rows_between::<K>(self.accounts.as_slice(), heap, low, high) {
-            Err(_) => Err(Failure::OutOfMemory),
-            Ok(rows) => Ok(show(rows.as_slice(), skip, buffer)),
-        }
+        let low = LawfulKey {
+            field: low,
+            kind: PhantomData,
+        };
+        let high = LawfulKey {
+            field: high,
+            kind: PhantomData,
+        };
+        // The proof reads here that the keys of the book rise.
+        let _accounts = &self.accounts;
+        let rows = self.rows_between(heap, &low, &high)?;
+        Ok(show(rows.as_slice(), skip, buffer))
     }
 }

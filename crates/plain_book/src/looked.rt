@@ -1,3 +1,6 @@
+// Kept apart from the kernel's answers: those count page reads, and stand in a crate above the tree, of which a book in
+// memory knows nothing. Two structs, since their names say what is counted.
+
 /// How many postings a key has, and how many of them a lookup wrote.
 #[derive(Clone, Copy, PartialEq, Eq, Debug)]
 pub struct Looked {

@@ -1,20 +1,18 @@
 ghost use Rattle.std.specs.Prelude.{◌≡◌, true, ◌++◌, map, length, take, drop, vec_items};
-ghost use Rattle.book.specs.Books.{Sorted, value_at};
+ghost use Rattle.book.specs.Books.{value_at};
 ghost use Rattle.book.specs.Entries.{book_of, paged};
 ghost use Rattle.book.specs.Looking.{lookup_answer, list_after_lookup};
 ghost use Rattle.plain_book.specs.Accounts.{entry_in};
-ghost use Rattle.plain_book.specs.Kept.{entries_in};
-ghost use Rattle.plain_book.specs.Places.{found_in};
 ghost use Rattle.plain_book.specs.Answers.{LookedAs, AccountIs};
 
 use crate::account::Account;
 use crate::failure::Failure;
 use crate::kept::PlainBook;
 use crate::looked::Looked;
-use crate::place::find;
-use keys::KeyKind;
+use keys::{KeyKind, LawfulKey};
 use refusals::Refusal;
 use std::alloc::Global;
+use std::marker::PhantomData;
 
 // Writes as many of the new numbers as a list holds, and answers how many.
 fn fill(list: &mut [u64], new: &[u64]) -> usize
@@ -22,54 +20,35 @@ fn fill(list: &mut [u64], new: &[u64]) -> usize
     ensures after { list.new ≡ take (length list.old) new.now ++ drop result list.old }
 {
     let count = list.len().min(new.len());
-    for i in 0..count {
-        list[i] = new[i];
-    }
+    list[..count].copy_from_slice(&new[..count]);
     count
 }
 
-impl PlainBook {
+impl<K: KeyKind> PlainBook<K> {
     /// Writes as many postings of a key, the newest first, as the list holds.
-    pub fn lookup<K: KeyKind>(
-        &self,
-        heap: Global,
-        key: &[u8],
-        list: &mut [u64],
-    ) -> Result<Looked, Failure>
-        ensures looks_up_as_said { Sorted K.KeyKind.kind (entries_in self.now) → LookedAs (lookup_answer K.KeyKind.kind (book_of (entries_in self.now)) key.now (length list.old)) (list_after_lookup K.KeyKind.kind (book_of (entries_in self.now)) key.now list.old) list.old result list.new }
+    pub fn lookup(&self, heap: Global, key: &[u8], list: &mut [u64]) -> Result<Looked, Failure>
+        ensures looks_up_as_said { LookedAs (lookup_answer K.kind (book_of self.now) key.now (length list.old)) (list_after_lookup K.kind (book_of self.now) key.now list.old) list.old result list.new }
     {
         let Some(part) = K::check(key) else {
             return Err(Failure::Refuses(Refusal::Key(0)));
         };
-        match self.postings::<K>(heap, part) {
-            Err(_) => Err(Failure::OutOfMemory),
-            Ok(postings) => {
-                let written = fill(list, postings.as_slice());
-                Ok(Looked {
-                    total: postings.len(),
-                    written,
-                })
-            }
-        }
-    }
-
-    // The account at a key's place.
-    fn account_there<K: KeyKind>(&self, key: &[u8]) -> Option<&Account>
-        ensures is_the_entry_of_the_key { Sorted K.KeyKind.kind (entries_in self.now) → K.KeyKind.kind.lawful key.now ≡ true → AccountIs (value_at K.KeyKind.kind paged key.now (entries_in self.now)) result }
-    {
-        let place = find::<K>(self.accounts.as_slice(), key);
-        if place.there {
-            Some(&self.accounts[place.at])
-        } else {
-            None
-        }
+        let key = LawfulKey {
+            field: part,
+            kind: PhantomData,
+        };
+        let postings = self.postings(heap, &key)?;
+        let written = fill(list, postings.as_slice());
+        Ok(Looked {
+            total: postings.len(),
+            written,
+        })
     }
 
     /// The account of a key, if it has postings.
-    pub fn account<K: KeyKind>(&self, key: &[u8]) -> Option<&Account>
-        ensures is_the_entry_of_the_key { Sorted K.KeyKind.kind (entries_in self.now) → K.KeyKind.kind.lawful key.now ≡ true → AccountIs (value_at K.KeyKind.kind paged key.now (entries_in self.now)) result }
+    pub fn account(&self, key: &[u8]) -> Option<&Account>
+        ensures is_the_entry_of_the_key { K.kind.lawful key.now ≡ true → AccountIs (value_at K.kind paged key.now self.now) result }
     {
-        self.account_there::<K>(key)
+        self.account_there(&LawfulKey::check(key)?)
     }
 }
 

@@ -1,124 +1,137 @@
-ghost use Rattle.std.specs.Prelude.{◌≡◌, ◌≤◌, OnOk};
-ghost use Rattle.refusals.specs.Refusals.{answer_of, and_then};
+ghost use Rattle.std.specs.Prelude.{◌≡◌, ◌+◌, ◌≤◌, true, OnOk};
+ghost use Rattle.refusals.specs.Refusals.{answer_of};
 ghost use Rattle.batches.specs.Reading.{rows_in, kind_code};
-ghost use Rattle.batches.specs.KeyCheck.{kind_and_keys_answer};
-ghost use Rattle.book.specs.Books.{Sorted};
-ghost use Rattle.book.specs.Merging.{lines_under, posting_lines, pages_answer, standing, merge_answer};
+ghost use Rattle.batches.specs.Opening.{opens};
+ghost use Rattle.batches.specs.Rows.{row_read};
+ghost use Rattle.book.specs.Merging.{bookings_of, lines_under, posting_lines, pages_answer, standing, lines_answer, lines_taken, check_answer, merge_answer, RowsRise};
 ghost use Rattle.book.specs.Entries.{paged};
-ghost use Rattle.plain_book.specs.Lines.{found_answers, all_spliced};
-ghost use Rattle.plain_book.specs.Kept.{entries_in};
+ghost use Rattle.plain_book.specs.Lines.{LawfulKeys};
 ghost use Rattle.plain_book.specs.Answers.{MergedAs};
 
 use crate::failure::Failure;
 use crate::kept::PlainBook;
-use crate::reading::{booked, posting_lines};
-use batches::{OpenBatch, Sign, check_kind_and_keys};
-use keys::KeyKind;
+use batches::{OpenBatch, OpenRow, Sign, check_kind_and_keys};
+use keys::{KeyKind, LawfulKey};
 use refusals::Refusal;
 use std::alloc::{AllocError, Global};
+use std::marker::PhantomData;
 
 /// Free pages that a merge wants for each posting line.
 const PAGES_FOR_A_LINE: usize = 7;
 
-// The answer to a line, by whether its number is there.
+// The answer to a line, by whether its number is there: one match on both.
 fn judged(sign: Sign, there: bool, at: u32) -> Result<(), Refusal>
     ensures { answer_of result ≡ standing sign there at }
 {
-    match sign {
-        Sign::Posting => {
-            if there {
-                Err(Refusal::Stands(at))
-            } else {
-                Ok(())
-            }
-        }
-        Sign::Cancelling => {
-            if there {
-                Ok(())
-            } else {
-                Err(Refusal::Absent(at))
-            }
-        }
+    match (sign, there) {
+        (Sign::Posting, true) => Err(Refusal::Stands(at)),
+        (Sign::Cancelling, false) => Err(Refusal::Absent(at)),
+        _ => Ok(()),
     }
+}
+
+// How many lines of a batch post.
+fn posting_lines(batch: &OpenBatch) -> usize
+    ensures are_counted { result ≡ posting_lines (lines_under (rows_in batch.now.bytes.now)) }
+    ensures are_at_most_1024 { result ≤ 1024 }
+{
+    batch
+        .lines()
+        .filter(|line| line.sign == Sign::Posting)
+        .count()
 }
 
 // Seven free pages for each posting line.
 fn check_pages(free: usize, batch: &OpenBatch) -> Result<(), Refusal>
     ensures { answer_of result ≡ pages_answer free (posting_lines (lines_under (rows_in batch.now.bytes.now))) }
 {
-    if PAGES_FOR_A_LINE * posting_lines(batch) as usize <= free {
+    if PAGES_FOR_A_LINE * posting_lines(batch) <= free {
         Ok(())
     } else {
         Err(Refusal::NoPages)
     }
 }
 
-impl PlainBook {
-    // The first line that does not fit the book as it stands.
-    fn check_lines<K: KeyKind>(&self, batch: &OpenBatch) -> Result<(), Refusal>
-        ensures { answer_of result ≡ found_answers K.KeyKind.kind 0 (lines_under (rows_in batch.now.bytes.now)) (entries_in self.now) }
+// A fact of bytes that open, for the proof of a merge: numbers rise within each row. Calling it does nothing.
+fn numbers_rise(bytes: &[u8])
+    requires { opens bytes.now ≡ true }
+    ensures { RowsRise (rows_in bytes.now) }
+{}
+
+impl<K: KeyKind> PlainBook<K> {
+    // The first line of a row that does not fit the book as it stands.
+    fn check_row(&self, row: &OpenRow) -> Result<(), Refusal>
+        requires key_is_lawful { K.kind.lawful row.now.key.now ≡ true }
+        requires lines_are_few { row.now.first + row.now.count ≤ 1024 }
+        ensures { answer_of result ≡ lines_answer K.kind paged row.now.first (bookings_of (row_read row.now)) self.now }
     {
-        for j in 0..batch.line_count() {
-            let Some(booked) = booked(batch, j) else {
-                return Ok(());
-            };
-            let there = self.stands::<K>(booked.key, booked.line.number);
-            judged(booked.line.sign, there, j)?;
+        let key = LawfulKey {
+            field: row.key,
+            kind: PhantomData,
+        };
+        for (i, line) in row.lines().enumerate() {
+            let there = self.stands(&key, line.number);
+            judged(line.sign, there, row.first + i as u32)?;
+        }
+        Ok(())
+    }
+
+    // The first line that does not fit the book as it stands.
+    fn check_lines(&self, batch: &OpenBatch) -> Result<(), Refusal>
+        requires { LawfulKeys K.kind (rows_in batch.now.bytes.now) }
+        ensures { answer_of result ≡ lines_answer K.kind paged 0 (lines_under (rows_in batch.now.bytes.now)) self.now }
+    {
+        for row in batch.rows() {
+            self.check_row(&row)?;
         }
         Ok(())
     }
 
     // All that a merge wants: kind and keys, then the lines, then pages.
-    fn check<K: KeyKind>(&self, free: usize, batch: &OpenBatch) -> Result<(), Refusal>
-        ensures { answer_of result ≡ and_then (kind_and_keys_answer K.KeyKind.kind (kind_code batch.now.bytes.now) (rows_in batch.now.bytes.now)) (and_then (found_answers K.KeyKind.kind 0 (lines_under (rows_in batch.now.bytes.now)) (entries_in self.now)) (pages_answer free (posting_lines (lines_under (rows_in batch.now.bytes.now))))) }
+    #[tactic(auto, unfolding(book::specs::Merging::check_answer))]
+    fn check(&self, free: usize, batch: &OpenBatch) -> Result<(), Refusal>
+        ensures { answer_of result ≡ check_answer K.kind paged free (kind_code batch.now.bytes.now) (rows_in batch.now.bytes.now) self.now }
     {
         check_kind_and_keys::<K>(batch)?;
-        self.check_lines::<K>(batch)?;
+        self.check_lines(batch)?;
         check_pages(free, batch)
     }
 
-    // All lines in order.
-    fn take_lines<K: KeyKind>(&mut self, heap: Global, batch: &OpenBatch) -> Result<(), AllocError>
-        ensures { OnOk result (entries_in self.new ≡ all_spliced K.KeyKind.kind (lines_under (rows_in batch.now.bytes.now)) (entries_in self.old)) }
+    // The lines of a row in order.
+    fn take_row(&mut self, heap: Global, row: &OpenRow) -> Result<(), AllocError>
+        requires { K.kind.lawful row.now.key.now ≡ true }
+        ensures { OnOk result (self.new ≡ lines_taken K.kind paged (bookings_of (row_read row.now)) self.old) }
     {
-        for j in 0..batch.line_count() {
-            let Some(booked) = booked(batch, j) else {
-                return Ok(());
-            };
-            self.take_line::<K>(heap, booked.key, booked.line)?;
+        let key = LawfulKey {
+            field: row.key,
+            kind: PhantomData,
+        };
+        for line in row.lines() {
+            self.take_line(heap, &key, line)?;
         }
         Ok(())
     }
 
-    // The merge of a batch over these bytes.
-    fn merge_over<K: KeyKind>(
-        &mut self,
-        heap: Global,
-        free: usize,
-        batch: &OpenBatch,
-        bytes: &[u8],
-    ) -> Result<usize, Failure>
-        requires { bytes.now ≡ batch.now.bytes.now }
-        ensures { Sorted K.KeyKind.kind (entries_in self.old) → MergedAs (merge_answer K.KeyKind.kind paged free (kind_code batch.now.bytes.now) (rows_in batch.now.bytes.now) (entries_in self.old)) (entries_in self.old) result (entries_in self.new) }
+    // All lines in order.
+    fn take_lines(&mut self, heap: Global, batch: &OpenBatch) -> Result<(), AllocError>
+        requires { LawfulKeys K.kind (rows_in batch.now.bytes.now) }
+        ensures { OnOk result (self.new ≡ lines_taken K.kind paged (lines_under (rows_in batch.now.bytes.now)) self.old) }
     {
-        match self.check::<K>(free, batch) {
-            Err(refusal) => Err(Failure::Refuses(refusal)),
-            Ok(()) => match self.take_lines::<K>(heap, batch) {
-                Err(_) => Err(Failure::OutOfMemory),
-                Ok(()) => Ok(self.accounts.len()),
-            },
+        for row in batch.rows() {
+            self.take_row(heap, &row)?;
         }
+        Ok(())
     }
 
     /// Merges an open batch, as if so many pages were free, and leaves the batch open: answers the number of keys.
-    pub fn merge<K: KeyKind>(
-        &mut self,
-        heap: Global,
-        free: usize,
-        batch: &OpenBatch,
-    ) -> Result<usize, Failure>
-        ensures merges_as_said_of_entries { Sorted K.KeyKind.kind (entries_in self.old) → MergedAs (merge_answer K.KeyKind.kind paged free (kind_code batch.now.bytes.now) (rows_in batch.now.bytes.now) (entries_in self.old)) (entries_in self.old) result (entries_in self.new) }
+    pub fn merge(&mut self, heap: Global, free: usize, batch: &OpenBatch) -> Result<usize, Failure>
+        ensures merges_as_said_of_entries { MergedAs (merge_answer K.kind paged free (kind_code batch.now.bytes.now) (rows_in batch.now.bytes.now) self.old) self.old result self.new }
     {
-        self.merge_over::<K>(heap, free, batch, batch.bytes())
+        // The proof reads here that the keys of the book rise.
+        let _accounts = &self.accounts;
+        numbers_rise(batch.bytes());
+        self.check(free, batch)?;
+        self.take_lines(heap, batch)?;
+        Ok(self.accounts.len())
     }
 }

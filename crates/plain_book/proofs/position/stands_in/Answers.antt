@@ -1,6 +1,6 @@
-use Rattle.std.proofs.Common.{ℕ, ltb, length, ap, ◌∙◌}
-use Rattle.plain_book.proofs.Positions.{stands_before_the_end}
+use Rattle.std.proofs.Common.{◌∙◌}
+use Rattle.plain_book.proofs.Positions.{any_has}
 use Rattle.plain_book.proofs.position.stands_in.Goals as goal
 
 pub returns : goal.returns
-returns c = ap (λ (k : ℕ). ltb k (length c.args.list.now)) c.position.ensures ∙ stands_before_the_end c.args.n c.args.list.now
+returns c = c.contains.ensures.value ∙ any_has c.args.n c.args.list.now

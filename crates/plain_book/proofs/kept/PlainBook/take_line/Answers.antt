@@ -1,29 +1,53 @@
-use Rattle.std.proofs.Common.{length, ap, ◌∙◌, arith}
-use Rattle.std.proofs.lemmas.List.{length-map}
-use Rattle.book.specs.Merging.{applied}
+use Rattle.std.proofs.Common.{◌∙◌, subst, sym}
+use Rattle.std.proofs.lemmas.Result.{on_ok_weaker}
+use Rattle.book.specs.Books.{Sorted}
 use Rattle.book.specs.Entries.{paged}
-use Rattle.plain_book.specs.Accounts.{held_in, entries_of}
-use Rattle.plain_book.specs.Kept.{entries_in}
-use Rattle.plain_book.proofs.Places.{room_left, line_spliced}
+use Rattle.book.specs.Merging.{applied}
+use Rattle.plain_book.specs.Accounts.{entries_of}
+use Rattle.plain_book.proofs.Places.{lifted_sorted, changed_lifted, changed_new, changed_sorted_here, either_way}
 use Rattle.plain_book.proofs.kept.PlainBook.take_line.Goals as goal
 
-pub put_back-requires : goal.put_back-requires
-put_back-requires g c =
-    let place = c.find-place.result in
-    let facts = c.find-place.ensures in
-    let list = entries_in c.args.self.now in
-    let same = ap entries_of c.as_slice.ensures.value in
-    let room = room_left list (entries_in c.lifted.new.self) place.at place.there
-    (omega (arith, facts.within, ap length c.as_slice.ensures.value, length-map c.args.self.now.accounts.items held_in))
-    (λ sure. omega (arith, facts.before_the_end sure, ap length c.as_slice.ensures.value, length-map c.args.self.now.accounts.items held_in))
-    c.in_ok-old.ensures.rest in
-    omega (arith, room, length-map c.lifted.new.self.accounts.items held_in, c.lifted.new.self.accounts.ok.0)
+pub invariant_of-self : goal.invariant_of-self
+invariant_of-self g c =
+    lifted_sorted g.K.KeyKind.kind c.args.key.now.field.now c.args.key.now.is_lawful c.self.inside.accounts.items c.args.self.now c.self.view_is c.self.invariant c.in-Ok.at c.in-Ok.ensures.stands c.remove.new.self.items c.remove.ensures.items
 
-pub returns : goal.returns
-returns g c =
-    let place = c.find-place.result in
-    let facts = c.find-place.ensures in
-    c.in_ok-put_back.ensures
-    ∙ line_spliced g.K.KeyKind.kind c.args.key.now (applied paged c.args.line.sign c.args.line.number) c.as_slice.result.now (entries_in c.args.self.now) (entries_in c.lifted.new.self) place.at place.there
-    (held_in c.in_ok-old.old) (held_in c.in_ok-new.new) (ap entries_of c.as_slice.ensures.value) facts.at facts.there facts.before_the_end
-    c.in_ok-old.ensures.account c.in_ok-old.ensures.rest c.in_ok-new.ensures
+pub invariant_of-self-in-Ok : goal.invariant_of-self-in-Ok
+invariant_of-self-in-Ok g c =
+    let kind = g.K.KeyKind.kind in
+    let key = c.args.key.now.field.now in
+    let accounts = c.self.inside.accounts.items in
+    let list = c.args.self.now in
+    let at = c.in-Ok.at in
+    let f = applied paged c.args.line.sign c.args.line.number in
+    let lifted = c.remove.new.self.items in
+    let changed = changed_lifted kind key c.args.key.now.is_lawful accounts list c.self.view_is c.self.invariant at c.in-Ok.ensures.stands lifted c.remove.ensures.items f c.remove.result c.in_ok-account-in-Ok.account c.remove.ensures.value c.in_ok-account-in-Ok.ensures in
+    either_way c.put_at.result c.put_at.ensures.put c.put_at.ensures.out_of_memory
+    (λ e. changed_sorted_here kind key c.args.key.now.is_lawful accounts list c.self.view_is c.self.invariant at f (entries_of c.put_at.new.accounts.items) (e ∙ changed))
+    (λ e. subst (λ xs. Sorted kind (entries_of xs)) (sym e) (lifted_sorted kind key c.args.key.now.is_lawful accounts list c.self.view_is c.self.invariant at c.in-Ok.ensures.stands lifted c.remove.ensures.items))
+
+pub invariant_of-self-in-Err : goal.invariant_of-self-in-Err
+invariant_of-self-in-Err g c =
+    let kind = g.K.KeyKind.kind in
+    let key = c.args.key.now.field.now in
+    let accounts = c.self.inside.accounts.items in
+    let list = c.args.self.now in
+    let at = c.in-Err.at in
+    let f = applied paged c.args.line.sign c.args.line.number in
+    let changed = changed_new kind key c.args.key.now.is_lawful accounts list c.self.view_is c.self.invariant at f c.in_ok-bare-in-Err.field-0 c.in_ok-account-in-Err.account c.in-Err.ensures.absent c.in_ok-bare-in-Err.ensures c.in_ok-account-in-Err.ensures in
+    either_way c.put_at-in-Err.result c.put_at-in-Err.ensures.put c.put_at-in-Err.ensures.out_of_memory
+    (λ e. changed_sorted_here kind key c.args.key.now.is_lawful accounts list c.self.view_is c.self.invariant at f (entries_of c.put_at-in-Err.new.accounts.items) (e ∙ changed))
+    (λ e. subst (λ xs. Sorted kind (entries_of xs)) (sym e) c.self.invariant)
+
+pub returns-in_ok-account-in-Ok : goal.returns-in_ok-account-in-Ok
+returns-in_ok-account-in-Ok g c =
+    on_ok_weaker c.put_at.result
+    (λ e. e ∙ changed_lifted g.K.KeyKind.kind c.args.key.now.field.now c.args.key.now.is_lawful c.self.inside.accounts.items c.args.self.now c.self.view_is c.self.invariant c.in-Ok.at c.in-Ok.ensures.stands c.remove.new.self.items c.remove.ensures.items
+    (applied paged c.args.line.sign c.args.line.number) c.remove.result c.in_ok-account-in-Ok.account c.remove.ensures.value c.in_ok-account-in-Ok.ensures)
+    c.put_at.ensures.put
+
+pub returns-in_ok-account-in-Err : goal.returns-in_ok-account-in-Err
+returns-in_ok-account-in-Err g c =
+    on_ok_weaker c.put_at-in-Err.result
+    (λ e. e ∙ changed_new g.K.KeyKind.kind c.args.key.now.field.now c.args.key.now.is_lawful c.self.inside.accounts.items c.args.self.now c.self.view_is c.self.invariant c.in-Err.at
+    (applied paged c.args.line.sign c.args.line.number) c.in_ok-bare-in-Err.field-0 c.in_ok-account-in-Err.account c.in-Err.ensures.absent c.in_ok-bare-in-Err.ensures c.in_ok-account-in-Err.ensures)
+    c.put_at-in-Err.ensures.put

@@ -1,11 +1,15 @@
-use Rattle.std.proofs.Common.{◌≡◌, drop}
+use Rattle.std.proofs.Common.{◌≡◌}
 use Rattle.batches.specs.Reading.{rows_in}
-use Rattle.book.specs.Merging.{lines_under}
-use Rattle.plain_book.specs.Kept.{entries_in}
-use Rattle.plain_book.specs.Lines.{all_spliced}
+use Rattle.book.specs.Merging.{lines_under, lines_taken}
+use Rattle.book.specs.Entries.{paged}
+use Rattle.plain_book.specs.Lines.{LawfulKeys}
 use Rattle.plain_book.proofs.kept.PlainBook.take_lines.Given as goal
 
-abbrev pub invariant-loop-j : goal.invariant-loop-j
-invariant-loop-j g l =
-    all_spliced g.K.KeyKind.kind (lines_under (rows_in l.batch.bytes.now)) (entries_in l.initial.self)
-    ≡ all_spliced g.K.KeyKind.kind (drop l.j (lines_under (rows_in l.batch.bytes.now))) (entries_in l.self)
+abbrev pub invariant-loop-row : goal.invariant-loop-row
+invariant-loop-row g l =
+    let kind = g.K.KeyKind.kind in
+    let left = l.row-iterator in
+    (goal.iterator-loop-row g).can_next left
+    × (goal.iterator-loop-row g).is_finite left
+    × (lines_taken kind paged (lines_under (rows_in l.batch.bytes.now)) l.initial.self ≡ lines_taken kind paged (lines_under left.rows) l.self)
+    × LawfulKeys kind left.rows

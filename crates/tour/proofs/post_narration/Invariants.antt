@@ -1,0 +1,5 @@
+use Rattle.narration.specs.Tokens.{bytes_left}
+use Rattle.tour.proofs.post_narration.Given as goal
+
+abbrev pub decreases-loop-token : goal.decreases-loop-token
+decreases-loop-token l = bytes_left l.token-iterator
