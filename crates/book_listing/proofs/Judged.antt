@@ -1,10 +1,9 @@
 -- What an input is answered, step by step. Assumes nothing.
-use Rattle.std.proofs.Common.{◌≡◌, ℕ, suc, ◌+◌, ◌*◌, ◌<◌, ◌≤◌, Bool, true, false, cond, not, leb, List, [], ◌∷◌, ◌++◌, map, length, get_or, drop, Some, None, decimal, sym, refl, ap, ◌∙◌, add-one, arith}
-use Rattle.std.specs.List.{slice_get}
+use Rattle.std.proofs.Common.{◌≡◌, ℕ, suc, ◌+◌, ◌*◌, ◌<◌, ◌≤◌, Bool, true, false, cond, not, leb, ltb, List, [], ◌∷◌, ◌++◌, map, length, Some, None, decimal, sym, refl, ap, ◌∙◌, arith}
+use Rattle.std.specs.List.{position, prefix_len}
 use Rattle.std.proofs.ByRecursion.{All-weaker}
-use Rattle.std.proofs.lemmas.List.{length-append, length-map, drop_more, drop_all}
-use Rattle.std.proofs.lemmas.Option.{slice_get-get_or}
-use Rattle.std.proofs.lemmas.Bool.{le-leb, lt-leb, leb-true}
+use Rattle.std.proofs.lemmas.List.{length-append, length-map}
+use Rattle.std.proofs.lemmas.Bool.{le-leb, lt-leb, leb-true, ltb-true, ltb-false}
 use Rattle.refusals.specs.Refusals.{Answer, Accepted, Refused, wants, and_then, is_accepted}
 use Rattle.refusals.proofs.Answering.{never_both, met_from_accepted, first_accepted, rest_accepted}
 use Rattle.numbers.specs.BigEndian.{Bytes}
@@ -23,7 +22,7 @@ use Rattle.book.specs.Laws.{no_cancelling, as_held}
 use Rattle.book.proofs.Rows.{merged_into_empty}
 use Rattle.book_listing.specs.Text.{booklist_answer, text_line, text_of, booklist_text}
 use Rattle.book_listing.specs.Writing.{verdict, on_empty, batch_text}
-use Rattle.book_listing.proofs.Texts.{no_line, text_of_rows, fits_364}
+use Rattle.book_listing.proofs.Texts.{text_of_rows, fits_364}
 
 -- the first cancelling line, over the lines of the file
 abbrev pub cancel_free : (at : ℕ) → List Line → Answer Unit
@@ -39,35 +38,45 @@ pub same_lines : (rows : List Row) (at : ℕ) → no_cancelling at (lines_under 
 same_lines [] at = refl
 same_lines (row ∷ rows) at = under_lines row.key row.lines (lines_under rows) (lines_of rows) (same_lines rows) at
 
--- a line that is there
-pub line_is : (lines : List Line) (j : ℕ) (line : Line) → Some line ≡ slice_get lines j → j < length lines → get_or lines j no_line ≡ line
-line_is lines j line e h = let there = slice_get-get_or lines j no_line h in cc
+-- how many lines post before the first that cancels
+abbrev posting_front : List Line → ℕ
+posting_front lines = prefix_len (λ (line : Line). not (not (is_posting line.sign))) lines
 
-pub never_past : (lines : List Line) (j : ℕ) → None ≡ slice_get lines j → j < length lines → ⊥
-never_past lines j e h = let there = slice_get-get_or lines j no_line h in let z : ◌≡◌ {A = ℕ} 0 1 = cc in omega arith
+refused_there : (at : ℕ) (lines : List Line) → posting_front lines < length lines → cancel_free at lines ≡ Refused 7 (at + posting_front lines)
+refused_there at [] h = absurd (omega arith)
+refused_there at (line ∷ lines) h = go line.sign h (λ k. refused_there (suc at) lines k)
+  where
+    go : (sign : Sign) → posting_front (record { sign = sign; number = line.number } ∷ lines) < suc (length lines) → (posting_front lines < length lines → cancel_free (suc at) lines ≡ Refused 7 (suc at + posting_front lines)) → cancel_free at (record { sign = sign; number = line.number } ∷ lines) ≡ Refused 7 (at + posting_front (record { sign = sign; number = line.number } ∷ lines))
+    go Posting k ih = ih (omega arith) ∙ ap (Refused 7) (omega arith)
+    go Cancelling k ih = ap (Refused 7) (omega arith)
 
-module _ (lines : List Line) (j : ℕ) (line : Line) (within : j < length lines) (is : get_or lines j no_line ≡ line) where
-  at_line : cancel_free j (drop j lines) ≡ and_then (wants (is_posting line.sign) 7 j) (cancel_free (suc j) (drop (j + 1) lines))
-  at_line =
-      ap (cancel_free j) (drop_more lines j no_line within)
-      ∙ ap (λ (l : Line). and_then (wants (is_posting l.sign) 7 j) (cancel_free (suc j) (drop (j + 1) lines))) is
+taken_all : (at : ℕ) (lines : List Line) → length lines ≤ posting_front lines → cancel_free at lines ≡ Accepted tt
+taken_all at [] h = refl
+taken_all at (line ∷ lines) h = go line.sign h (λ k. taken_all (suc at) lines k)
+  where
+    go : (sign : Sign) → suc (length lines) ≤ posting_front (record { sign = sign; number = line.number } ∷ lines) → (length lines ≤ posting_front lines → cancel_free (suc at) lines ≡ Accepted tt) → cancel_free at (record { sign = sign; number = line.number } ∷ lines) ≡ Accepted tt
+    go Posting k ih = ih (omega arith)
+    go Cancelling k ih = absurd (omega arith)
 
-  pub line_refused : not (is_posting line.sign) ≡ true → cancel_free j (drop j lines) ≡ Refused 7 j
-  line_refused bad = at_line ∙ go line.sign bad
+module _ (rows : List Row) where
+  abbrev lines : List Line
+  lines = lines_of rows
+
+  pub first_cancelling : (j : ℕ) → position (λ (line : Line). not (is_posting line.sign)) lines ≡ Some j → Refused 7 j ≡ no_cancelling 0 (lines_under rows)
+  first_cancelling j is = go (ltb (posting_front lines) (length lines)) refl is
     where
-      go : (sign : Sign) → not (is_posting sign) ≡ true → and_then (wants (is_posting sign) 7 j) (cancel_free (suc j) (drop (j + 1) lines)) ≡ Refused 7 j
-      go Posting e = let z : ◌≡◌ {A = ℕ} 0 1 = cc in absurd (omega arith)
-      go Cancelling e = refl
+      go : (t : Bool) → ltb (posting_front lines) (length lines) ≡ t → cond t (Some (posting_front lines)) None ≡ Some j → Refused 7 j ≡ no_cancelling 0 (lines_under rows)
+      go true h e =
+          let n : posting_front lines ≡ j = cc in
+          sym (same_lines rows 0 ∙ refused_there 0 lines (ltb-true (posting_front lines) (length lines) h) ∙ ap (Refused 7) (omega arith))
+      go false h e = absurd cc
 
-  pub line_taken : not (is_posting line.sign) ≡ false → cancel_free j (drop j lines) ≡ cancel_free (j + 1) (drop (j + 1) lines)
-  line_taken good = at_line ∙ go line.sign good ∙ ap (λ (n : ℕ). cancel_free n (drop (j + 1) lines)) (sym (add-one j))
+  pub none_cancelling : position (λ (line : Line). not (is_posting line.sign)) lines ≡ None → Accepted tt ≡ no_cancelling 0 (lines_under rows)
+  none_cancelling is = go (ltb (posting_front lines) (length lines)) refl is
     where
-      go : (sign : Sign) → not (is_posting sign) ≡ false → and_then (wants (is_posting sign) 7 j) (cancel_free (suc j) (drop (j + 1) lines)) ≡ cancel_free (suc j) (drop (j + 1) lines)
-      go Posting e = refl
-      go Cancelling e = let z : ◌≡◌ {A = ℕ} 0 1 = cc in absurd (omega arith)
-
-pub lines_end : (lines : List Line) (j : ℕ) → length lines ≤ j → cancel_free j (drop j lines) ≡ Accepted tt
-lines_end lines j h = ap (cancel_free j) (drop_all j lines h)
+      go : (t : Bool) → ltb (posting_front lines) (length lines) ≡ t → cond t (Some (posting_front lines)) None ≡ None → Accepted tt ≡ no_cancelling 0 (lines_under rows)
+      go true h e = absurd cc
+      go false h e = sym (same_lines rows 0 ∙ taken_all 0 lines (ltb-false (posting_front lines) (length lines) h))
 
 -- where no line cancels, each posts
 all_counted : (at : ℕ) (bs : List Booking) → no_cancelling at bs ≡ Accepted tt → posting_lines bs ≡ length bs

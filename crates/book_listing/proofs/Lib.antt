@@ -1,4 +1,3 @@
-pub mod Overs
 pub mod Cutting
 pub mod Texts
 pub mod Judged

@@ -1,29 +1,20 @@
 -- The text of a batch of postings: it is that of its book, and 364 bytes hold it. Assumes nothing.
-use Rattle.std.proofs.Common.{◌≡◌, ℕ, zero, suc, ◌+◌, ◌-◌, ◌*◌, ◌^◌, ◌<◌, ◌≤◌, List, [], ◌∷◌, ◌++◌, map, reverse, length, get_or, take, decimal, sym, refl, ap, ◌∙◌, subst, mul-suc, mul-add, arith, lit<}
+use Rattle.std.proofs.Common.{◌≡◌, ℕ, ◌+◌, ◌*◌, ◌^◌, ◌<◌, ◌≤◌, List, [], ◌∷◌, ◌++◌, map, reverse, length, decimal, sym, refl, ap, ◌∙◌, subst, mul-suc, mul-add, arith, lit<}
 use mathlib.Core.List.{reverse_aux}
 use Rattle.std.specs.List.{flat_map, AllByRecursion}
 use Rattle.std.proofs.lemmas.Fmt.{decimal_digit, length-decimal-le}
-use Rattle.std.proofs.lemmas.List.{append_assoc, length-append, length-map, length-reverse, get_or-reverse, get_or-map, get_or_append_left, get_or-append-add, get_or_past, take_all}
+use Rattle.std.proofs.lemmas.List.{append_assoc, append-nil, map-append, reverse-append, length-append, length-map, length-reverse}
 use Rattle.refusals.specs.Refusals.{Accepted}
-use Rattle.batches.specs.declared.line.Sign.TheVariants.{Posting}
 use Rattle.batches.specs.declared.line.Line.{Line}
 use Rattle.batches.specs.Layout.{Row, lines_of, Rising, RowFits}
-use Rattle.batches.specs.Rows.{lines_before, no_row}
-use Rattle.book.specs.Looking.{Listed, rows_under}
+use Rattle.book.specs.Looking.{rows_under}
 use Rattle.book.specs.Laws.{as_held}
 use Rattle.book_listing.specs.Text.{text_line, until_zero, all_rows, row_text, text_of}
 use Rattle.book_listing.specs.Writing.{postings_text, batch_text}
 use Rattle.book_listing.proofs.Cutting.{until_short}
-use Rattle.book_listing.proofs.Overs.{joined_step, joined_room}
 
 abbrev pub number_of_line : Line → ℕ
 number_of_line line = line.number
-
-abbrev pub no_line : Line
-no_line = record { sign = Posting; number = 0 }
-
-abbrev pub no_listed : Listed
-no_listed = record { key = []; posting = 0 }
 
 joined_append : {X A : Type 0} (f : X → List A) (xs ys : List X) → flat_map f (xs ++ ys) ≡ flat_map f xs ++ flat_map f ys
 joined_append f [] ys = refl
@@ -51,38 +42,6 @@ unfolding batch_text
 text_of_rows rows =
     ap (λ (n : ℕ). text_line (decimal 0) n ++ flat_map row_text (all_rows (map as_held rows))) (rows_counted rows)
     ∙ ap (λ (xs : List ℕ). text_line (decimal 0) (length (lines_of rows)) ++ xs) (rows_text rows)
-
--- row k of those that a batch row gives has the number of its line m, where k and m count from its two ends
-pub listed_at : (row : Row) (k m : ℕ) → k + m + 1 ≡ length row.lines → get_or (rows_under (as_held row)) k no_listed ≡ record { key = row.key; posting = (get_or row.lines m no_line).number }
-listed_at row k m e =
-    let numbers = map number_of_line row.lines in
-    let long = length-map row.lines number_of_line in
-    let there : k < length (reverse numbers) = omega (arith, length-reverse numbers) in
-    let within : k < length numbers = omega arith in
-    let place : length numbers - 1 - k ≡ m = omega arith in
-    let inside : m < length row.lines = omega arith in
-    get_or-map (λ (n : ℕ). record { key = row.key; posting = n }) (reverse numbers) k 0 no_listed there
-    ∙ ap (λ (n : ℕ). record { key = row.key; posting = n })
-    (get_or-reverse numbers k 0 within ∙ ap (λ (i : ℕ). get_or numbers i 0) place ∙ get_or-map number_of_line row.lines m no_line 0 inside)
-
--- line m of row i in the file
-pub line_of_row : (rows : List Row) (i m : ℕ) → i < length rows → m < length (get_or rows i no_row).lines → get_or (lines_of rows) (lines_before rows i + m) no_line ≡ get_or (get_or rows i no_row).lines m no_line
-line_of_row [] i m h k = absurd (omega arith)
-line_of_row (row ∷ rows) zero m h k =
-    let e : 0 + m ≡ m = omega arith in
-    ap (λ (n : ℕ). get_or (row.lines ++ lines_of rows) n no_line) e ∙ get_or_append_left row.lines (lines_of rows) no_line m k
-line_of_row (row ∷ rows) (suc i) m h k =
-    let e : length (row.lines ++ lines_of (take i rows)) + m ≡ length row.lines + (lines_before rows i + m) = omega (arith, length-append row.lines (lines_of (take i rows))) in
-    ap (λ (n : ℕ). get_or (row.lines ++ lines_of rows) n no_line) e
-    ∙ get_or-append-add row.lines (lines_of rows) (lines_before rows i + m) no_line
-    ∙ line_of_row rows i m (omega arith) k
-
--- no row's lines pass the last
-pub lines_within : (rows : List Row) (i : ℕ) → i < length rows → lines_before rows i + length (get_or rows i no_row).lines ≤ length (lines_of rows)
-lines_within [] i h = absurd (omega arith)
-lines_within (row ∷ rows) zero h = omega (arith, length-append row.lines (lines_of rows))
-lines_within (row ∷ rows) (suc i) h =
-    omega (arith, lines_within rows i (omega arith), length-append row.lines (lines_of rows), length-append row.lines (lines_of (take i rows)))
 
 -- how long a row's text is
 short_line : (key : List ℕ) (n : ℕ) → length key ≡ 24 → n < 2 ^ 63 → length (text_line (until_zero key) n) ≤ 45
@@ -138,51 +97,29 @@ short_refusal m n small fits =
     let b : length (decimal n) ≤ 20 = length-decimal-le 20 n (lit< tt) (omega arith) fits in
     omega (arith, length-append (decimal m) (32 ∷ (decimal n ++ (10 ∷ []))), length-append (decimal n) (10 ∷ []))
 
--- the text of a batch: its first line, then its rows
-pub batch_is : (rows : List Row) → text_line (decimal 0) (length (lines_of rows)) ++ flat_map postings_text rows ≡ batch_text rows
-unfolding batch_text
-batch_is rows = refl
-
-pub batch_long : (rows : List Row) → length (text_line (decimal 0) (length (lines_of rows))) + length (flat_map postings_text rows) ≡ length (batch_text rows)
-batch_long rows = sym (length-append (text_line (decimal 0) (length (lines_of rows))) (flat_map postings_text rows)) ∙ ap length (batch_is rows)
-
--- the text of a batch row that is not there
-pub no_text : (rows : List Row) (i : ℕ) → length rows ≤ i → postings_text (get_or rows i no_row) ≡ []
+-- the last line is listed first
+pub last_line_first : (key : List ℕ) (lines : List Line) (line : Line) → postings_text (record { key = key; lines = lines ++ line ∷ [] }) ≡ text_line (until_zero key) line.number ++ postings_text (record { key = key; lines = lines })
 unfolding postings_text
-no_text rows i h = ap postings_text (get_or_past rows i no_row h)
+last_line_first key lines line = rw (map-append number_of_line lines (line ∷ []), reverse-append (map number_of_line lines) (line.number ∷ []))
 
--- the rows of the listing that row i of a batch gives, one by one
-module _ (rows : List Row) (i : ℕ) (within : i < length rows) where
-  abbrev row : Row
-  row = get_or rows i no_row
+pub none_listed : (key : List ℕ) → postings_text (record { key = key; lines = [] }) ≡ []
+unfolding postings_text
+none_listed key = refl
 
-  abbrev pub listed_of : List Listed
-  listed_of = rows_under (as_held row)
+-- a text, and behind it the rows of the lines that are left
+module _ (key : List ℕ) (before after : List Line) (line : Line) (is : before ≡ after ++ line ∷ []) (text whole : List ℕ) (same : text ++ postings_text (record { key = key; lines = before }) ≡ whole) where
+  pub one_added : (text ++ text_line (until_zero key) line.number) ++ postings_text (record { key = key; lines = after }) ≡ whole
+  one_added =
+      append_assoc text (text_line (until_zero key) line.number) (postings_text (record { key = key; lines = after }))
+      ∙ ap (λ (xs : List ℕ). text ++ xs) (sym (last_line_first key after line) ∙ ap (λ (lines : List Line). postings_text (record { key = key; lines = lines })) (sym is))
+      ∙ same
 
-  pub all_listed : (n : ℕ) → length row.lines ≤ n → flat_map row_text (take n listed_of) ≡ postings_text row
-  unfolding postings_text
-  all_listed n h = ap (flat_map row_text) (take_all n listed_of (omega (arith, length_rows row)))
+  pub one_fits : length text + length (text_line (until_zero key) line.number) ≤ length whole
+  one_fits =
+      omega (arith, ap length one_added, length-append (text ++ text_line (until_zero key) line.number) (postings_text (record { key = key; lines = after })), length-append text (text_line (until_zero key) line.number))
 
-  -- line x of the file gives row k of them
-  module _ (x k : ℕ) (from : lines_before rows i ≤ x) (to : k + x + 1 ≡ lines_before rows i + length row.lines) (line : Line) (is : get_or (lines_of rows) x no_line ≡ line) where
-    listed_here : get_or listed_of k no_listed ≡ record { key = row.key; posting = line.number }
-    listed_here =
-        let m = x - lines_before rows i in
-        let place : lines_before rows i + m ≡ x = omega arith in
-        let inside : m < length row.lines = omega arith in
-        let there = line_of_row rows i m within inside in
-        listed_at row k m (omega arith)
-        ∙ ap (λ (l : Line). record { key = row.key; posting = l.number }) (sym there ∙ ap (λ (n : ℕ). get_or (lines_of rows) n no_line) place ∙ is)
-
-    here : k < length listed_of
-    here = omega (arith, length_rows row)
-
-    text_here : row_text (get_or listed_of k no_listed) ≡ text_line (until_zero row.key) line.number
-    text_here = ap row_text listed_here
-
-    pub one_more : flat_map row_text (take (k + 1) listed_of) ≡ flat_map row_text (take k listed_of) ++ text_line (until_zero row.key) line.number
-    one_more = joined_step row_text listed_of k no_listed here ∙ ap (λ (xs : List ℕ). flat_map row_text (take k listed_of) ++ xs) text_here
-
-    pub room_for_one : length (flat_map row_text (take k listed_of)) + length (text_line (until_zero row.key) line.number) ≤ length (postings_text row)
-    unfolding postings_text
-    room_for_one = omega (arith, joined_room row_text listed_of k no_listed here, ap length text_here)
+pub none_left : (key : List ℕ) (before : List Line) → before ≡ [] → (text whole : List ℕ) → text ++ postings_text (record { key = key; lines = before }) ≡ whole → text ≡ whole
+none_left key before is text whole same =
+    sym (append-nil text)
+    ∙ ap (λ (xs : List ℕ). text ++ xs) (sym (none_listed key) ∙ ap (λ (lines : List Line). postings_text (record { key = key; lines = lines })) (sym is))
+    ∙ same

@@ -1,6 +1,6 @@
 -- What booklist prints: the answer to merging its input into a new index over 64 pages, and the listing of all of it.
-use Rattle.std.specs.Prelude.{ℕ, cond, List, [], ◌∷◌, ◌++◌, length, drop, decimal, ◌==◌, nat_le}
-use Rattle.std.specs.List.{flat_map}
+use Rattle.std.specs.Prelude.{ℕ, not, List, [], ◌∷◌, ◌++◌, length, drop, decimal, ◌==◌, nat_le}
+use Rattle.std.specs.List.{flat_map, take_while}
 use Rattle.refusals.specs.Refusals.{Answer, Accepted, Refused, wants, and_then}
 use Rattle.keys.specs.BuiltIn.{word_kind}
 use Rattle.batches.specs.Reading.{kind_code, rows_in}
@@ -20,8 +20,7 @@ text_line first n = first ++ (32 ∷ (decimal n ++ (10 ∷ [])))
 
 -- a key's bytes before its first zero
 abbrev pub until_zero : List ℕ → List ℕ
-until_zero [] = []
-until_zero (b ∷ bs) = cond (b == 0) [] (b ∷ until_zero bs)
+until_zero key = take_while (λ b. not (b == 0)) key
 
 -- all rows of a book: keys rising, the postings of each as in the book
 abbrev pub all_rows : Book → List Listed

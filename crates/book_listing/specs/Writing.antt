@@ -1,5 +1,5 @@
 -- What the steps of writing a listing leave: for functions that the crate keeps to itself.
-use Rattle.std.specs.Prelude.{ℕ, ◌+◌, List, ◌++◌, length, take, drop, decimal}
+use Rattle.std.specs.Prelude.{ℕ, List, ◌++◌, length, decimal}
 use Rattle.std.specs.List.{flat_map}
 use Rattle.refusals.specs.Refusals.{Answer, Accepted, Refused, and_then}
 use Rattle.keys.specs.BuiltIn.{word_kind}
@@ -20,10 +20,6 @@ verdict (Refused number place) = Refused number place
 abbrev pub on_empty : (code : ℕ) → List Row → Answer Unit
 on_empty code rows =
     and_then (kind_and_keys_answer word_kind code rows) (and_then (no_cancelling 0 (lines_under rows)) (pages_answer 62 (posting_lines (lines_under rows))))
-
--- a text written over old bytes from a place on
-unfoldable pub over : List ℕ → (at : ℕ) → List ℕ → List ℕ
-over old at text = take at old ++ (text ++ drop (at + length text) old)
 
 -- the text of a row of postings: its last line first
 unfoldable pub postings_text : Row → List ℕ

@@ -1,4 +1,4 @@
-ghost use Rattle.std.specs.Prelude.{◌≡◌, ◌*◌, not, length, nat_lt};
+ghost use Rattle.std.specs.Prelude.{◌≡◌, not};
 ghost use Rattle.refusals.specs.Refusals.{answer_of};
 ghost use Rattle.batches.specs.Reading.{kind_code, rows_in};
 ghost use Rattle.book.specs.Merging.{lines_under, is_posting};
@@ -18,40 +18,17 @@ const FREE: u64 = 62;
 
 const PAGES_PER_LINE: u64 = 7;
 
-fn is_too_long(input: &[u8]) -> bool
-    ensures { result ≡ nat_lt 16384 (length input.now) }
-{
-    input.len() > MOST
-}
-
-fn are_too_many(lines: u32) -> bool
-    ensures { result ≡ nat_lt 62 (7 * lines) }
-{
-    PAGES_PER_LINE * u64::from(lines) > FREE
-}
-
-fn cancels(line: Line) -> bool
-    ensures { result ≡ not (is_posting line.sign) }
-{
-    match line.sign {
-        Sign::Posting => false,
-        Sign::Cancelling => true,
-    }
-}
-
 // The first line that cancels: a new index holds nothing to cancel.
 fn refuse_cancelling(batch: &OpenBatch) -> Result<(), Refusal>
     ensures { answer_of result ≡ no_cancelling 0 (lines_under (rows_in batch.now.bytes.now)) }
 {
-    for j in 0..batch.line_count() {
-        let Some(line) = batch.line(j) else {
-            return Ok(());
-        };
-        if cancels(line) {
-            return Err(Refusal::Absent(j));
-        }
+    let cancels = |line: Line| -> bool
+        ensures { result ≡ not (is_posting line.sign) }
+    { line.sign == Sign::Cancelling };
+    match batch.lines().position(cancels) {
+        Some(j) => Err(Refusal::Absent(j as u32)),
+        None => Ok(()),
     }
-    Ok(())
 }
 
 // An open batch against the empty book.
@@ -60,7 +37,7 @@ fn judge_batch(batch: &OpenBatch) -> Result<(), Refusal>
 {
     check_kind_and_keys::<NarrationWord>(batch)?;
     refuse_cancelling(batch)?;
-    if are_too_many(batch.line_count()) {
+    if PAGES_PER_LINE * u64::from(batch.line_count()) > FREE {
         return Err(Refusal::NoPages);
     }
     Ok(())
@@ -70,7 +47,7 @@ fn judge_batch(batch: &OpenBatch) -> Result<(), Refusal>
 pub(crate) fn judge(input: &[u8]) -> Result<(), Refusal>
     ensures { answer_of result ≡ verdict (booklist_answer input.now) }
 {
-    if is_too_long(input) {
+    if input.len() > MOST {
         return Err(Refusal::Form(3));
     }
     check(input)?;

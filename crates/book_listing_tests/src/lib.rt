@@ -4,94 +4,38 @@
 #[cfg(test)]
 mod tests {
     use book_listing::{ROOM, booklist, worked_texts_hold};
+    use drafts::{LineDraft, RowDraft, add_line, add_row, file, head, line, row};
     use refusals::Refusal;
-    use std::alloc::{AllocError, Global};
+    use std::alloc::Global;
     use std::process::Abort;
     use std::test::Fail;
 
     const LARGEST: u64 = 9_223_372_036_854_775_807;
 
-    // A row as a file has it: a word, the number of its first line and its count of lines.
-    #[derive(Clone, Copy)]
-    struct RowCells<'a> {
-        word: &'a [u8],
-        first: u32,
-        count: u32,
-    }
-
-    // A line as a file has it: any sign byte, any number.
-    #[derive(Clone, Copy)]
-    struct LineCells {
-        sign: u8,
-        number: u64,
-    }
-
-    fn row(word: &[u8], first: u32, count: u32) -> RowCells<'_> {
-        RowCells { word, first, count }
-    }
-
-    fn line(sign: u8, number: u64) -> LineCells {
-        LineCells { sign, number }
-    }
-
-    fn add_row(file: &mut Vec<u8>, row: RowCells<'_>) -> Result<(), AllocError> {
-        for i in 0..24usize {
-            let letter = if i < row.word.len() { row.word[i] } else { 0 };
-            file.push(letter)?;
-        }
-        file.extend_from_slice(&row.first.to_be_bytes())?;
-        file.extend_from_slice(&row.count.to_be_bytes())
-    }
-
-    fn add_line(file: &mut Vec<u8>, line: LineCells) -> Result<(), AllocError> {
-        file.push(line.sign)?;
-        file.extend_from_slice(&line.number.to_be_bytes())
-    }
-
-    // Sixteen bytes: letters, kind code, three zeros, both counts.
-    fn head(heap: Global, kind: u8, rows: u32, lines: u32) -> Result<Vec<u8>, AllocError> {
-        let mut file = b"BTCH".to_vec(heap)?;
-        file.extend_from_slice(&[kind, 0, 0, 0])?;
-        file.extend_from_slice(&rows.to_be_bytes())?;
-        file.extend_from_slice(&lines.to_be_bytes())?;
-        Ok(file)
-    }
-
     // A batch of narration words with these rows and lines, lawful or not.
     fn words(
         rt: &impl Abort,
         heap: Global,
-        rows: &[RowCells<'_>],
-        lines: &[LineCells],
+        rows: &[RowDraft<'_>],
+        lines: &[LineDraft],
     ) -> Result<Vec<u8>, Fail> {
         assert!(rt; rows.len() < 100 && lines.len() < 100);
-        let mut file = head(heap, 1, rows.len() as u32, lines.len() as u32)?;
-        for row in rows {
-            add_row(&mut file, *row)?;
-        }
-        for line in lines {
-            add_line(&mut file, *line)?;
-        }
-        Ok(file)
+        let counts = [rows.len() as u32, lines.len() as u32];
+        Ok(file(heap, 1, counts, rows, lines)?)
     }
 
     // Whether these bytes are what stands in front, and all behind them is untouched.
     fn stands_there(out: &[u8], text: &[u8]) -> bool {
-        for (i, byte) in out.iter().enumerate() {
-            let expected = if i < text.len() { text[i] } else { 0xaa };
-            if *byte != expected {
-                return false;
-            }
+        match out.strip_prefix(text) {
+            Some(rest) => rest.iter().all(|byte| *byte == 0xaa),
+            None => false,
         }
-        true
     }
 
     fn prints(input: &[u8], text: &[u8]) -> bool {
         let mut out = [0xaau8; 400];
-        match booklist(input, &mut out) {
-            Ok(count) => count == text.len() && stands_there(&out, text),
-            Err(_) => false,
-        }
+        let count = booklist(input, &mut out);
+        count == Ok(text.len()) && stands_there(&out, text)
     }
 
     #[test]
@@ -111,7 +55,7 @@ mod tests {
 
     #[test]
     fn a_full_listing_takes_364_bytes(rt: HostRuntime) -> Result<(), Fail> {
-        let mut file = head(rt.alloc(), 1, 8, 8)?;
+        let mut file = head(rt.alloc(), 1, [8, 8])?;
         let mut text = b"0 8\n".to_vec(rt.alloc())?;
         for i in 0..8u32 {
             let word = [b'a' + i as u8; 24];
@@ -133,9 +77,9 @@ mod tests {
         assert!(rt; prints(&vec![in rt.alloc(); b'X'; 16_385]?, b"2 3\n"));
         assert!(rt; prints(&vec![in rt.alloc(); 0; 16_384]?, b"2 1\n"));
         assert!(rt; prints(b"", b"2 1\n"));
-        assert!(rt; prints(&head(rt.alloc(), 1, 0, 1025)?, b"2 2\n"));
-        assert!(rt; prints(&head(rt.alloc(), 1, 1, 0)?, b"2 3\n"));
-        assert!(rt; prints(&head(rt.alloc(), 77, 0, 0)?, b"3 0\n"));
+        assert!(rt; prints(&head(rt.alloc(), 1, [0, 1025])?, b"2 2\n"));
+        assert!(rt; prints(&head(rt.alloc(), 1, [1, 0])?, b"2 3\n"));
+        assert!(rt; prints(&head(rt.alloc(), 77, [0, 0])?, b"3 0\n"));
         Ok(())
     }
 

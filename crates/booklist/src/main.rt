@@ -12,6 +12,7 @@ use std::io::Read;
 const ENOUGH: usize = 16385;
 
 // Reads to the end of a source, or until the buffer is full.
+// Kept as a loop over `read`: `read_exact` fails where a source ends before the buffer, and `read_to_end` needs a heap.
 fn read_up_to<R: Read>(source: &mut R, buffer: &mut [u8]) -> io::Result<usize>
     ensures within_the_buffer { IfOk result (λ n. n ≤ length buffer.old) }
 {
