@@ -26,10 +26,8 @@ mod tests {
 
     // Whether these bytes are what stands in front, and all behind them is untouched.
     fn stands_there(out: &[u8], text: &[u8]) -> bool {
-        match out.strip_prefix(text) {
-            Some(rest) => rest.iter().all(|byte| *byte == 0xaa),
-            None => false,
-        }
+        out.strip_prefix(text)
+            .is_some_and(|rest| rest.iter().all(|byte| *byte == 0xaa))
     }
 
     fn prints(input: &[u8], text: &[u8]) -> bool {

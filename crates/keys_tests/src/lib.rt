@@ -22,10 +22,9 @@ mod tests {
 
     // Number and place of the refusal.
     fn refusal<K: KeyKind>(field: &[u8], place: u32) -> Result<(), (u8, usize)> {
-        match lawful_field::<K>(field, place) {
-            Ok(_) => Ok(()),
-            Err(refusal) => Err((refusal.number(), refusal.place())),
-        }
+        lawful_field::<K>(field, place)
+            .map(|_| ())
+            .map_err(|refusal| (refusal.number(), refusal.place()))
     }
 
     fn lawful<K: KeyKind>(bytes: &[u8]) -> bool {

@@ -30,6 +30,7 @@ fn list_chain<S: PageStore>(
     let count = store.count();
     let mut page = head;
     let mut next = at;
+    // A bound on the walk and no index: what is walked along is the page.
     for _step in 0..count {
         if page == 0 || window.is_past(next) {
             return Ok(());

@@ -59,6 +59,7 @@ pub(crate) fn list_leaves<S: PageStore, K: KeyKind>(
     let count = store.count();
     let mut leaf = start;
     let mut next = 0;
+    // A bound on the walk and no index: what is walked along is the page.
     for _step in 0..count {
         match list_leaf(store, &leaf, range, next, window)? {
             ControlFlow::Break(total) => return Ok(total),

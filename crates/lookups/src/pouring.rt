@@ -60,6 +60,7 @@ pub(crate) fn pour_chain<S: PageStore>(
     let count = store.count();
     let mut page = head;
     let mut end = ChainEnd { records: 0, place };
+    // A bound on the walk and no index: what is walked along is the page.
     for _step in 0..count {
         if page == 0 {
             return Ok(end);

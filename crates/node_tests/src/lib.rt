@@ -102,9 +102,7 @@ mod tests {
         assert!(rt; is_refused(&leaf(), 2, 255), "many entries");
         assert!(rt; is_refused(&leaf(), 3, 4), "an entry past the count");
         assert!(rt; !is_refused(&leaf(), 32 + 43, 8), "another second posting");
-        let Some(read) = Leaf::decode(&leaf().encode()) else {
-            return Err(Fail::new("no leaf"));
-        };
+        let read = Leaf::decode(&leaf().encode()).ok_or("no leaf")?;
         assert!(rt; read.next == 4 && read.entries.len() == 5);
         Ok(())
     }
@@ -117,9 +115,7 @@ mod tests {
         assert!(rt; is_refused(&inner(), 3, 0), "no child");
         assert!(rt; is_refused(&inner(), 3, 17), "17 children");
         assert!(rt; !is_refused(&inner(), 35, 9), "another first child");
-        let Some(read) = InnerNode::decode(&inner().encode()) else {
-            return Err(Fail::new("no node"));
-        };
+        let read = InnerNode::decode(&inner().encode()).ok_or("no node")?;
         assert!(rt; read.first == 3 && read.rows.len() == 7);
         Ok(())
     }

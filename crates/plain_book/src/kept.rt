@@ -103,10 +103,8 @@ impl<K: KeyKind> PlainBook<K> {
     pub(crate) fn stands(&self, key: &LawfulKey<K>, n: u64) -> bool
         ensures { result ≡ has n (postings_in (value_at K.kind paged key.now.field.now self.now)) }
     {
-        match self.account_there(key) {
-            Some(account) => account.holds(n),
-            None => false,
-        }
+        self.account_there(key)
+            .is_some_and(|account| account.holds(n))
     }
 
     // All postings of a key, the newest first.

@@ -17,7 +17,7 @@ use std::marker::PhantomData;
 /// The bytes of a row of a listing.
 const ROW: usize = 32;
 
-// Whether a key lies from the first to the second.
+// Whether a key lies from the first to the second. Two keys and no range: that of the kernel is the listing crate's own.
 fn is_within<K: KeyKind>(key: &LawfulKey<K>, first: &LawfulKey<K>, second: &LawfulKey<K>) -> bool
     ensures { result ≡ within K.kind first.now.field.now second.now.field.now key.now.field.now }
 {

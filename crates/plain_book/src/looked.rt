@@ -1,5 +1,5 @@
-// Kept apart from the kernel's answers: those count page reads, and stand in a crate above the tree, of which a book in
-// memory knows nothing. Two structs, since their names say what is counted.
+// Apart from the answers of an index: those stand in a crate above the tree, of which a book in memory knows nothing,
+// and its lookups count page reads. Two structs, since their names say what is counted.
 
 /// How many postings a key has, and how many of them a lookup wrote.
 #[derive(Clone, Copy, PartialEq, Eq, Debug)]

@@ -25,6 +25,7 @@ const MOST_LEVELS: u16 = 6;
 // The page of the header.
 const HEADER: u32 = 0;
 
+// By hand, since the test of a row can fail, and a test given to `partition_point` cannot.
 // The child of the last row whose separator is not above the key, else the first child. Nothing where a key is unlawful.
 fn child_for<K: KeyKind>(node: &InnerNode, key: &[u8]) -> Option<u32>
     ensures goes_by_the_separators { K.kind.lawful key.now ≡ true → AllByRecursion (λ (row : InnerRow). K.kind.lawful row.key ≡ true) (inner_of node.now).rows → result ≡ Some (child_for K.kind key.now (inner_of node.now).first (inner_of node.now).rows) }
@@ -80,6 +81,7 @@ fn way_down<S: PageStore, K: KeyKind>(
 {
     let mut page = root;
     let mut reads = 0;
+    // A bound on the walk and no index: what is walked along is the page.
     for _level in 1..height {
         let node: InnerNode = read_node(store, page)?;
         reads += 1;

@@ -22,9 +22,10 @@ impl Plain {
 
     fn write(&mut self, page: u32, buffer: &[u8]) -> Result<(), Refusal> {
         let bytes = buffer.as_array().ok_or(Refusal::Buffer(buffer.len()))?;
-        let Some(place) = self.pages.get_mut(page as usize) else {
-            return Err(Refusal::Page(page));
-        };
+        let place = self
+            .pages
+            .get_mut(page as usize)
+            .ok_or(Refusal::Page(page))?;
         *place = Some(*bytes);
         Ok(())
     }
@@ -63,7 +64,7 @@ fn writes_alike<S: PageStore>(
     store.write(page, buffer) == plain.write(page, buffer)
 }
 
-// One call that a number picks, made on both.
+// One call, made on both. A match on a number: the number is drawn, and how many arms name a call is its odds.
 fn call<S: PageStore>(
     store: &mut S,
     plain: &mut Plain,

@@ -104,7 +104,7 @@ fn show_postings(rt: &HostRuntime, book: &WordBook, key: &Key) -> anyhow::Result
     Ok(())
 }
 
-// Prints the first rows of a listing of all words.
+// Prints the first rows of a listing of all words. The count stands beside the buffer, since `take` needs no proof that so many fit.
 fn show_rows(rt: &HostRuntime, rows: usize, buffer: &[u8; 320]) -> anyhow::Result<()> {
     let (all, _) = buffer.as_chunks::<32>();
     for row in all.iter().take(rows) {
