@@ -1,7 +1,7 @@
 -- Laws of a store's meaning and of its answers, for those who make stores and those who call them.
 use Rattle.std.proofs.Common.{◌≡◌, ℕ, ◌<◌, ◌≤◌, Bool, true, false, cond, eqb, ltb, ◌≢◌, List, length, set, sym, refl, ap, ◌∙◌, ⊎_elim, arith}
 use Rattle.std.proofs.lemmas.List.{length-set, get_or-set_same, get_or-set_other, set_past, set-get_or, set-set, set_comm, ext_get_or, get_or_past}
-use Rattle.std.proofs.lemmas.Bool.{eq-eqb, lt-ltb, le-ltb, cases_eq, cases_lt}
+use Rattle.std.proofs.lemmas.Bool.{eq-eqb, eqb-true, ltb-true, lt-ltb, le-ltb, cases_eq, cases_lt}
 use Rattle.numbers.specs.BigEndian.{Bytes}
 use Rattle.refusals.specs.Refusals.{Answer, Refused, on_accepted}
 use Rattle.page_store.specs.Meanings.{Page, Live, Gone, Meaning, count_of, page_at, with_page, Sound, done, reached, found, read_answer, write_answer, bytes_or, after_read, after_write}
@@ -10,7 +10,24 @@ use Rattle.page_store.specs.Meanings.{Page, Live, Gone, Meaning, count_of, page_
 pub never : (number place : ℕ) → Refused number place ≡ done → ⊥
 never number place e = let o : ◌≡◌ {A = ℕ} 0 1 = cc in omega arith
 
+-- what is refused before the page is looked at is refused whatever would follow
+reach_cases : (a b : Bool) (x y then : Answer Unit) (number place : ℕ) → Refused number place ≡ cond a (cond b done x) y → Refused number place ≡ cond a (cond b then x) y
+reach_cases true true x y then number place e = absurd (never number place e)
+reach_cases true false x y then number place e = e
+reach_cases false b x y then number place e = e
+
+reach_accepts : (a b : Bool) (number place number' place' : ℕ) → done ≡ cond a (cond b done (Refused number place)) (Refused number' place') → (a ≡ true) × (b ≡ true)
+reach_accepts true true number place number' place' e = (refl, refl)
+reach_accepts true false number place number' place' e = absurd (never number place (sym e))
+reach_accepts false b number place number' place' e = absurd (never number' place' (sym e))
+
 module _ (count n len : ℕ) where
+  pub refused_there : (then : Answer Unit) (number place : ℕ) → Refused number place ≡ reached count n len done → Refused number place ≡ reached count n len then
+  refused_there then number place e = reach_cases (eqb len 512) (ltb n count) (Refused 12 n) (Refused 13 len) then number place e
+
+  pub is_there : done ≡ reached count n len done → (len ≡ 512) × (n < count)
+  is_there e = let p = reach_accepts (eqb len 512) (ltb n count) 12 n 13 len e in (eqb-true len 512 p.0, ltb-true n count p.1)
+
   pub goes_on : (then : Answer Unit) → len ≡ 512 → n < count → then ≡ reached count n len then
   goes_on then h l = rw (eq-eqb len 512 h, lt-ltb n count l)
 
