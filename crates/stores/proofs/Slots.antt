@@ -6,7 +6,7 @@ use Rattle.std.proofs.ByRecursion.{All-take, All-drop}
 use Rattle.std.proofs.lemmas.Bool.{cases_order}
 use Rattle.std.proofs.lemmas.List.FromFn.{length-map-range_with_len, get_or-map-range_with_len}
 use Rattle.numbers.specs.BigEndian.{Bytes, part, written}
-use Rattle.page_store.specs.Meanings.{Page, Live, Gone, Sound, count_of, page_at, found, bytes_or, read_answer, after_read, after_write}
+use Rattle.page_store.specs.Meanings.{Page, Live, Gone, Sound, count_of, found, bytes_or, read_answer, after_read, after_write}
 use Rattle.page_store.proofs.Laws.{live_is_there, read_answers, read_fills, on_write, write_leaves}
 use Rattle.stores.specs.Slots.{slot_count, slot_pages, slots_meaning, slots_written, IsForm}
 use Rattle.stores.proofs.Parts.{length_written, part_there, part_below, part_above}
@@ -54,24 +54,28 @@ module _ (w : ℕ) (f : List ℕ → Page) where
       here ∙ (ap f (part_above m b (w * n) within (w * k) w past) ∙ (sym old ∙ sym (get_or-set_other ps n k (f b) Gone (omega arith))))))
       (cases_order k n))
 
--- pages of slots that have a form are whole
+  -- pages that are whole slot by slot are whole
+  pub sound_slot_by_slot : ((slot bytes : List ℕ) → length slot ≡ w → Bytes slot → f slot ≡ Live bytes → (length bytes ≡ 512) × Bytes bytes)
+      → (m : List ℕ) → Bytes m → Sound (record { pages = slot_pages w f m })
+  sound_slot_by_slot whole m bs =
+      let l = count_slots m in
+      record {
+        has_at_most_65536_pages = omega arith;
+        pages_have_512_bytes = λ n bytes e. (of m bs n bytes e).0;
+        pages_hold_bytes = λ n bytes e. (of m bs n bytes e).1;
+      }
+    where
+      of : (m : List ℕ) → Bytes m → (n : ℕ) (bytes : List ℕ) → get_or (slot_pages w f m) n Gone ≡ Live bytes → (length bytes ≡ 512) × Bytes bytes
+      of m bs n bytes e =
+          let l = count_slots m in
+          let there : n < slot_count w (length m) = omega (arith, live_is_there (record { pages = slot_pages w f m }) n bytes e) in
+          let fits = slot_fits w n (length m) there in
+          let wide : length (part (w * n) w m) ≡ w = simp (length-take, length-drop) (omega arith) in
+          whole (part (w * n) w m) bytes wide (All-take (λ x. x < 256) w (drop (w * n) m) (All-drop (λ x. x < 256) (w * n) m bs)) (sym (page_slots m n there) ∙ e)
+
+-- and so are pages of slots that have a form
 pub sound_slots : (w : ℕ) (f : List ℕ → Page) (g : List ℕ → List ℕ) → IsForm w f g → (m : List ℕ) → Bytes m → Sound (slots_meaning w f m)
-sound_slots w f g form m bs =
-    let l = count_slots w f m in
-    record {
-      has_at_most_65536_pages = omega arith;
-      pages_have_512_bytes = λ n bytes e. form.pages_have_512_bytes (part (w * n) w m) bytes (wide n (there n bytes e)) (is n bytes e);
-      pages_hold_bytes = λ n bytes e. form.pages_hold_bytes (part (w * n) w m) bytes (All-take (λ x. x < 256) w (drop (w * n) m) (All-drop (λ x. x < 256) (w * n) m bs)) (is n bytes e);
-    }
-  where
-    there : (n : ℕ) (bytes : List ℕ) → page_at (slots_meaning w f m) n ≡ Live bytes → n < slot_count w (length m)
-    there n bytes e = let l = count_slots w f m in omega (arith, live_is_there (slots_meaning w f m) n bytes e)
-
-    wide : (n : ℕ) → n < slot_count w (length m) → length (part (w * n) w m) ≡ w
-    wide n h = let fits = slot_fits w n (length m) h in simp (length-take, length-drop) (omega arith)
-
-    is : (n : ℕ) (bytes : List ℕ) → page_at (slots_meaning w f m) n ≡ Live bytes → f (part (w * n) w m) ≡ Live bytes
-    is n bytes e = sym (page_slots w f m n (there n bytes e)) ∙ e
+sound_slots w f g form = sound_slot_by_slot w f (λ slot bytes l b e. (form.pages_have_512_bytes slot bytes l e, form.pages_hold_bytes slot bytes b e))
 
 -- a read of a slot, by the page that it holds
 module _ (w : ℕ) (f : List ℕ → Page) (m : List ℕ) (n : ℕ) (old : List ℕ) (h : length old ≡ 512) (l : n < slot_count w (length m)) where

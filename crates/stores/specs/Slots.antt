@@ -1,5 +1,5 @@
 -- Memory as pages: slots of equal width, 512 bytes in a flat store and 516 in a sealed one.
-use Rattle.std.specs.Prelude.{◌≡◌, ℕ, ◌<◌, ◌+◌, ◌*◌, ◌/◌, min, cond, List, [], ◌∷◌, ◌++◌, map, length, take, drop, ◌==◌}
+use Rattle.std.specs.Prelude.{◌≡◌, ℕ, ◌<◌, ◌+◌, ◌*◌, ◌/◌, min, Bool, true, false, cond, List, [], ◌∷◌, ◌++◌, map, length, take, drop, ◌==◌}
 use Rattle.std.specs.List.{range_with_len}
 use Rattle.numbers.specs.BigEndian.{Bytes, number_of, bytes_of, part, written}
 use Rattle.refusals.specs.Refusals.{on_accepted}
@@ -50,6 +50,10 @@ sealed_slot page = page ++ bytes_of 4 (seal page)
 
 unfoldable pub sealed_page : List ℕ → Page
 sealed_page slot = cond (number_of (drop 512 slot) == seal (take 512 slot)) (Live (take 512 slot)) Gone
+
+abbrev pub is_live : Page → Bool
+is_live (Live bytes) = true
+is_live Gone = false
 
 abbrev pub sealed_meaning : List ℕ → Meaning
 sealed_meaning memory = slots_meaning 516 sealed_page memory
