@@ -139,6 +139,10 @@ apart_set (x ∷ hs) (suc i) d h a l e =
     (not_from_false (holds (set hs i h) x.page) (holds_set hs i h x.page (not-true (holds hs x.page) p.0) other))
     (apart_set hs i d h p.1 (omega arith) (⊎_elim (λ o. inl (or_parts (eqb h.page x.page) (holds hs h.page) o).1) (λ z. inr z) e))
 
+-- the pages so far, one more
+pub holds_take : (hs : List Held) (i : ℕ) (d : Held) (n : ℕ) → i < length hs → holds (take i hs) n ≡ false → ((get_or hs i d).page ≡ n → ⊥) → holds (take (i + 1) hs) n ≡ false
+holds_take hs i d n l e ne = rw (take_more hs i d l) (holds_more (take i hs) (get_or hs i d) n e (λ z. ne (sym z)))
+
 holds_none : (es : List Entry) (n : ℕ) → ((k : ℕ) (d : Entry) → k < length es → eqb (get_or es k d).held.page n ≡ false) → holds (pages_of es) n ≡ false
 holds_none [] n h = refl
 holds_none (e ∷ es) n h =
@@ -253,6 +257,12 @@ is_pages (p ∷ ps) (q ∷ qs) e =
 pub same_is_equal : (m k : Meaning) → same_meaning m k ≡ true → m ≡ k
 unfolding same_meaning
 same_is_equal m k e = ap (λ (ps : List Page). record { pages = ps }) (is_pages m.pages k.pages e)
+
+pub take_set_in : {X : Type 0} (n : ℕ) (xs : List X) (i : ℕ) (x : X) → take n (set xs i x) ≡ set (take n xs) i x
+take_set_in zero xs i x = refl
+take_set_in (suc n) [] i x = refl
+take_set_in (suc n) (y ∷ xs) zero x = refl
+take_set_in (suc n) (y ∷ xs) (suc i) x = ap (λ t. y ∷ t) (take_set_in n xs i x)
 
 -- some page that is held, to stand where a default is asked for
 pub any_held : (hs : List Held) (i : ℕ) → i < length hs → Held
