@@ -1,8 +1,8 @@
 -- Bytes cut into pieces of one width, and what the pieces hold. Assumes nothing.
-use Rattle.std.proofs.Common.{◌≡◌, ℕ, zero, suc, ◌^◌, ◌<◌, ◌≤◌, List, [], ◌∷◌, ◌++◌, map, length, take, drop, refl, ap, ◌∙◌, arith}
-use Rattle.std.proofs.lemmas.List.{append_assoc, take_at, drop_at}
+use Rattle.std.proofs.Common.{◌≡◌, ℕ, zero, suc, ◌+◌, ◌*◌, ◌^◌, ◌<◌, ◌≤◌, List, [], ◌∷◌, ◌++◌, map, length, take, drop, sym, refl, ap, ◌∙◌, mul-zero, mul-suc, add-one, arith}
+use Rattle.std.proofs.lemmas.List.{append_assoc, take_at, drop_at, drop-drop}
 use Rattle.std.specs.List.{flat_map, AllByRecursion}
-use Rattle.numbers.specs.BigEndian.{bytes_of, number_at}
+use Rattle.numbers.specs.BigEndian.{bytes_of, part, number_at}
 use Rattle.numbers.proofs.Spelling.{length_bytes_of, number_bytes_of, number_between}
 use Rattle.std.specs.Simd.{first_chunks}
 use Rattle.nodes.specs.Readings.{pieces}
@@ -18,6 +18,20 @@ pieces_joined width f g (x ∷ xs) rest h =
     ∙ ap (λ (y : _). y ∷ map g (pieces width (length xs) (drop width ((f x ++ flat_map f xs) ++ rest)))) h.0.1
     ∙ ap (λ (bytes : List ℕ). x ∷ map g (pieces width (length xs) bytes)) back
     ∙ ap (λ (ys : List _). x ∷ ys) (pieces_joined width f g xs rest h.1)
+
+pieces_suc : (width i : ℕ) (bytes : List ℕ) → pieces width (suc i) bytes ≡ pieces width i bytes ++ (part (width * i) width bytes ∷ [])
+pieces_suc width zero bytes = ap (λ (n : ℕ). take width (drop n bytes) ∷ []) (sym (mul-zero width))
+pieces_suc width (suc i) bytes =
+    let e : width + width * i ≡ width * suc i = omega (arith, mul-suc width i) in
+    ap (λ (ps : List (List ℕ)). take width bytes ∷ ps) (pieces_suc width i (drop width bytes))
+    ∙ ap (λ (b : List ℕ). take width bytes ∷ (pieces width i (drop width bytes) ++ (take width b ∷ []))) (drop-drop (width * i) width bytes ∙ ap (λ (n : ℕ). drop n bytes) e)
+
+-- one piece more
+pub pieces_more : (width at i : ℕ) (bytes : List ℕ) → pieces width (i + 1) (drop at bytes) ≡ pieces width i (drop at bytes) ++ (part (at + width * i) width bytes ∷ [])
+pieces_more width at i bytes =
+    ap (λ (n : ℕ). pieces width n (drop at bytes)) (add-one i)
+    ∙ pieces_suc width i (drop at bytes)
+    ∙ ap (λ (b : List ℕ). pieces width i (drop at bytes) ++ (take width b ∷ [])) (drop-drop (width * i) at bytes)
 
 -- the machine's chunks are the pieces
 pub chunks_are_pieces : (width count : ℕ) (bytes : List ℕ) → first_chunks width count bytes ≡ pieces width count bytes

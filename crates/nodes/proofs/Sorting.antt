@@ -42,7 +42,7 @@ free_first v = refl
 first : (page image : List ℕ) (n : ℕ) → get_or image 0 0 ≡ n → page ≡ image → get_or page 0 0 ≡ n
 first page image n f e = ap (λ (b : List ℕ). get_or b 0 0) e ∙ f
 
-named : (page : List ℕ) (sort : PageSort) → get_or page 0 0 ≡ sort_number sort → SortsTellImages page (Some sort)
+pub named : (page : List ℕ) (sort : PageSort) → get_or page 0 0 ≡ sort_number sort → SortsTellImages page (Some sort)
 named page sort h =
     record {
       headers = λ v e. ap Some (same_sort sort Header (sym h ∙ first page (header_image v) 1 (header_first v) e));
@@ -52,7 +52,7 @@ named page sort h =
       free_pages = λ v e. ap Some (same_sort sort Free (sym h ∙ first page (free_image v) 5 (free_first v) e));
     }
 
-not_named : (page : List ℕ) → ((sort : PageSort) → get_or page 0 0 ≡ sort_number sort → ⊥) → SortsTellImages page None
+pub not_named : (page : List ℕ) → ((sort : PageSort) → get_or page 0 0 ≡ sort_number sort → ⊥) → SortsTellImages page None
 not_named page h =
     record {
       headers = λ v e. absurd (h Header (first page (header_image v) 1 (header_first v) e));
@@ -66,3 +66,11 @@ not_named page h =
 pub tells : (page : List ℕ) (r : Option PageSort) → MatchOption r ((sort : PageSort) → get_or page 0 0 ≡ sort_number sort → ⊥) (λ (sort : PageSort). get_or page 0 0 ≡ sort_number sort) → SortsTellImages page r
 tells page None h = not_named page h
 tells page (Some sort) h = named page sort h
+
+-- a number that no sort has
+pub none_named : (n : ℕ) → (n ≡ 1 → ⊥) → (n ≡ 2 → ⊥) → (n ≡ 3 → ⊥) → (n ≡ 4 → ⊥) → (n ≡ 5 → ⊥) → (sort : PageSort) → n ≡ sort_number sort → ⊥
+none_named n a b d e f Header = a
+none_named n a b d e f Inner = b
+none_named n a b d e f Leaf = d
+none_named n a b d e f Record = e
+none_named n a b d e f Free = f

@@ -44,6 +44,9 @@ module _ {V : Type 0} (image : V → List ℕ) (Fits : V → Type 0) (reading : 
       back_again None d = d v s.fits s.is_its_image
       back_again (Some x) d = s.of_no_other (meaning x) d.fits d.is_its_image
 
+pub spelled_too : {V : Type 0} (image : V → List ℕ) (Fits : V → Type 0) (page same : List ℕ) (v : V) → page ≡ same → Spells image Fits same v → Spells image Fits page v
+spelled_too image Fits page same v e s = subst (λ (bytes : List ℕ). Spells image Fits bytes v) (sym e) s
+
 -- what stands in front
 front_count : (sort : PageSort) (count next : ℕ) (rest : List ℕ) → front_bytes sort count next ++ rest ≡ (sort_number sort ∷ 0 ∷ []) ++ (bytes_of 2 count ++ (bytes_of 4 next ++ (replicate 24 0 ++ rest)))
 unfolding padded
