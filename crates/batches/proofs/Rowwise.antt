@@ -60,6 +60,12 @@ module _ (bytes : List ℕ) (opened : opens bytes ≡ true) where
   pub length_counted : 16 + 32 * row_count bytes + 9 * line_count bytes ≡ length bytes
   length_counted = rows_length bytes accepted
 
+  pub rows_few : row_count bytes ≤ 1024
+  rows_few = few_rows bytes (counts bytes accepted)
+
+  pub lines_few : line_count bytes ≤ 1024
+  lines_few = few_lines bytes (counts bytes accepted)
+
   pub has_a_head : 16 ≤ length bytes
   has_a_head = omega (arith, length_counted)
 
