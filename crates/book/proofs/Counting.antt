@@ -1,6 +1,6 @@
 -- How often a number stands in a list, after postings and cancellations.
 use Rattle.std.proofs.Common.{◌≡◌, ℕ, suc, ◌+◌, ◌≤◌, Bool, true, false, cond, eqb, leb, ◌⊎◌, List, [], ◌∷◌, ◌++◌, length, refl, ap, inl, inr, arith}
-use Rattle.std.proofs.lemmas.Bool.{eq-eqb, ne_eqb, cases_eq, cond-true, cond-false, le-leb, leb-true, leb-false}
+use Rattle.std.proofs.lemmas.Bool.{eq-eqb, ne_eqb, cases_eq, cond-true, cond-false, le-leb, lt-leb, leb-true, leb-false}
 use Rattle.std.proofs.lemmas.Bool.Decides.{nat_tests}
 use Rattle.std.specs.List.{AllByRecursion}
 use Rattle.book.specs.Books.{count, has, without}
@@ -26,6 +26,9 @@ has_not n ps e = omega (arith, leb-false 1 (count n ps) e)
 
 pub has_counted : (n : ℕ) (ps : List ℕ) → 1 ≤ count n ps → has n ps ≡ true
 has_counted n ps h = le-leb 1 (count n ps) h
+
+pub lacks_counted : (n : ℕ) (ps : List ℕ) → count n ps ≡ 0 → has n ps ≡ false
+lacks_counted n ps h = lt-leb 1 (count n ps) (omega arith)
 
 pub has_same : (n : ℕ) (ps qs : List ℕ) → count n ps ≡ count n qs → has n ps ≡ has n qs
 has_same n ps qs e = ap (λ c. leb 1 c) e
