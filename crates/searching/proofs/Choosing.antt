@@ -1,10 +1,23 @@
 -- The child for a key, row by row. Assumes nothing.
-use Rattle.std.proofs.Common.{◌≡◌, ℕ, zero, suc, ◌+◌, ◌<◌, ◌≤◌, Bool, true, false, cond, ◌&&◌, List, [], ◌∷◌, map, length, get_or, drop, Some, None, Option, sym, ap, ◌∙◌, subst, add-one, arith, drop-cons}
+use Rattle.std.proofs.Common.{◌≡◌, ℕ, zero, suc, ◌+◌, ◌<◌, ◌≤◌, Bool, true, false, cond, ◌&&◌, List, [], ◌∷◌, map, length, get_or, take, drop, Some, None, Option, sym, refl, ap, ◌∙◌, subst, add-one, arith, drop-cons}
 use Rattle.std.specs.List.{AllByRecursion}
-use Rattle.std.proofs.lemmas.List.{length-map, get_or-map, drop_all}
+use Rattle.std.proofs.lemmas.List.{length-map, length-take-le, get_or-take, get_or-map, drop_all}
 use Rattle.keys.specs.Kinds.{Kind, Field, below}
 use Rattle.nodes.specs.Layout.{InnerRow, InnerPage}
 use Rattle.searching.specs.Descents.{child_for}
+
+-- what an element of a list's front is, and what comes after it
+pub taken_there : {X Y : Type 0} (f : X → Y) (xs : List X) (count i : ℕ) (d : X) → i < count → count ≤ length xs → drop i (map f (take count xs)) ≡ f (get_or xs i d) ∷ drop (i + 1) (map f (take count xs))
+taken_there f xs count i d h fits =
+    let long : length (take count xs) ≡ count = length-take-le count xs fits in
+    let within : i < length (take count xs) = omega arith in
+    let mapped_long : length (map f (take count xs)) ≡ length (take count xs) = length-map (take count xs) f in
+    let within_map : i < length (map f (take count xs)) = omega arith in
+    let element : get_or (map f (take count xs)) i (f d) ≡ f (get_or xs i d) = get_or-map f (take count xs) i d (f d) within ∙ ap f (get_or-take count xs i d h) in
+    drop-cons (map f (take count xs)) i (f d) within_map ∙ (ap (λ y. y ∷ drop (suc i) (map f (take count xs))) element ∙ ap (λ n. f (get_or xs i d) ∷ drop n (map f (take count xs))) (sym (add-one i)))
+
+pub length_taken : {X Y : Type 0} (f : X → Y) (xs : List X) (count : ℕ) → count ≤ length xs → length (map f (take count xs)) ≡ count
+length_taken f xs count fits = length-map (take count xs) f ∙ length-take-le count xs fits
 
 -- what an element of a list means, and what comes after it
 pub meant_there : {X Y : Type 0} (f : X → Y) (xs ys : List X) (i : ℕ) (x : X) → xs ≡ ys → i < length xs → x ≡ get_or xs i x → drop i (map f ys) ≡ f x ∷ drop (i + 1) (map f ys)
@@ -24,6 +37,9 @@ all_there P (x ∷ xs) rest (suc i) y all e = all_there P xs rest i y all.1 e
 pub record Chosen (kind : Kind) (key : Field) (node : InnerPage) (i child : ℕ) : Type 0 where
   pub as_from_the_start : kind.lawful key ≡ true → AllByRecursion (λ (row : InnerRow). kind.lawful row.key ≡ true) node.rows
       → child_for kind key child (drop i node.rows) ≡ child_for kind key node.first node.rows
+
+pub chosen_none : (kind : Kind) (key : Field) (node : InnerPage) → Chosen kind key node 0 node.first
+chosen_none kind key node = record { as_from_the_start = λ lk all. refl }
 
 both_true : (a b : Bool) → a ≡ true → b ≡ true → (a && b) ≡ true
 both_true true b e f = f

@@ -6,7 +6,7 @@ use Rattle.page_store.specs.Meanings.{Meaning, Page, Live, Gone, count_of, page_
 use Rattle.page_store.proofs.Laws.{never, live_is_there, goes_on}
 use Rattle.nodes.specs.Codec.{Spells}
 use Rattle.calls.specs.States.{ShowsDamage}
-use Rattle.searching.specs.NodeReads.{Tells, RefusesOnlyDamage}
+use Rattle.searching.specs.NodeReads.{Tells, NodeRead, RefusesOnlyDamage}
 
 -- a page that is not lost is read
 pub live_is_read : (m : Meaning) (page : ℕ) (bytes : List ℕ) → page_at m page ≡ Live bytes → read_answer m page 512 ≡ done
@@ -28,6 +28,11 @@ told_by_the_store m page refusal told = go (ltb page (count_of m)) (page_at m pa
     go false p e = inr (inr cc)
     go true Gone e = inl cc
     go true (Live bytes) e = absurd (never (number_of refusal) (place_of refusal) e)
+
+pub read_shows_damage : {V X : Type 0} (image : V → List ℕ) (Fits : V → Type 0) (meaning : X → V) (m : Meaning) (page : ℕ) (refusal : Refusal) (r : Result X Refusal) → NodeRead image Fits meaning m page r → r ≡ Err refusal → ShowsDamage (number_of refusal)
+read_shows_damage image Fits meaning m page refusal (Ok x) read e = absurd (let z : ◌≡◌ {A = ℕ} 0 1 = cc in omega arith)
+read_shows_damage image Fits meaning m page refusal (Err other) (inl told) e = let same : other ≡ refusal = cc in subst (λ (r : Refusal). ShowsDamage (number_of r)) same (told_by_the_store m page other told)
+read_shows_damage image Fits meaning m page refusal (Err other) (inr (told, none)) e = let same : other ≡ refusal = cc in subst (λ (r : Refusal). ShowsDamage (number_of r)) same (inr (inl cc))
 
 -- and so does whatever is returned for it
 pub returned_shows_damage : {T : Type 0} (r : Result T Refusal) (refusal : Refusal) → r ≡ Err refusal → ShowsDamage (number_of refusal) → RefusesOnlyDamage r
