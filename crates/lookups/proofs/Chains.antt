@@ -25,6 +25,13 @@ pub record Left (m : Meaning) (records : List RecordAt) (place : ℕ) (list : Li
 pub record Pouring (m : Meaning) (head place : ℕ) (list : List ℕ) (count page : ℕ) (end : ChainEnd) (now : List ℕ) : Type 0 where
   pub goes : (records : List RecordAt) → ChainFrom m.pages head records → length records ≤ count → Left m records place list count page end now
 
+pub pouring_start : (m : Meaning) (head place : ℕ) (list : List ℕ) (count : ℕ) (end : ChainEnd) → end.records ≡ 0 → end.place ≡ place → Pouring m head place list count head end list
+pouring_start m head place list count end none here =
+    record {
+      goes = λ records chain few.
+          record { left = records; is_chained = chain; counted = omega (arith, none); placed = ap (λ (n : ℕ). n + length (postings_in records)) here; written = ap (λ (n : ℕ). poured n (postings_in records) list) here };
+    }
+
 module _ (m : Meaning) {records : List RecordAt} {place : ℕ} {list : List ℕ} {count page : ℕ} {end : ChainEnd} {now : List ℕ} where
   -- a page that is not 0 has a record
   pub record_is_read : (1 ≤ page) → {refusal : Refusal} {r : Result Record Refusal} → NodeRead record_image RecordFits record_of m page r → r ≡ Err refusal → Left m records place list count page end now → ⊥
