@@ -1,5 +1,5 @@
 -- Which entries are listed: none below the first key, and none from the first key above the second on. Assumes nothing.
-use Rattle.std.proofs.Common.{◌≡◌, Bool, true, false, cond, not, List, [], ◌∷◌, ◌++◌, map, Some, None, Option, refl, ap, ◌∙◌}
+use Rattle.std.proofs.Common.{◌≡◌, ℕ, Bool, true, false, cond, not, ◌&&◌, List, [], ◌∷◌, ◌++◌, map, Some, None, Option, refl, ap, ◌∙◌, arith}
 use Rattle.std.specs.List.{AllByRecursion}
 use Rattle.std.proofs.lemmas.Bool.{and_from, and_left, and_right, not_from_true, not_from_false, cond-true, cond-false}
 use Rattle.keys.specs.Kinds.{Kind, Field, below}
@@ -12,6 +12,16 @@ use Rattle.listing.specs.Walks.{rows_at, listed_at}
 
 abbrev pub keys_at : List EntryAt → List Field
 keys_at entries = map (λ (entry : EntryAt). entry.key) entries
+
+-- what two lawful fields are asked for is answered
+pub answered : (kind : Kind) (a b : Field) (answer : Option Bool) → kind.lawful a ≡ true → kind.lawful b ≡ true → answer ≡ cond (kind.lawful a && kind.lawful b) (Some (below kind a b)) None → answer ≡ Some (below kind a b)
+answered kind a b answer la lb asked = asked ∙ cond-true (kind.lawful a && kind.lawful b) (Some (below kind a b)) None (and_from (kind.lawful a) (kind.lawful b) la lb)
+
+pub some_same : (answer : Option Bool) (a b : Bool) → answer ≡ Some a → answer ≡ Some b → a ≡ b
+some_same answer a b e f = cc
+
+pub some_none : (answer : Option Bool) (a : Bool) → answer ≡ Some a → answer ≡ None → ⊥
+some_none answer a e f = let z : ◌≡◌ {A = ℕ} 0 1 = cc in omega arith
 
 -- what is lawful is checked
 pub unchecked : {X : Type 0} (lawful : Bool) (y : X) → None ≡ cond lawful (Some y) None → lawful ≡ true → ⊥
