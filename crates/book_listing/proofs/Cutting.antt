@@ -1,7 +1,8 @@
--- A key up to its first zero. Assumes nothing.
-use Rattle.std.proofs.Common.{◌≡◌, ℕ, ◌≤◌, Bool, true, false, not, cond, eqb, ltb, List, length, take, Some, None, sym, refl, ap, arith}
+-- A key up to its first zero; a number's figures. Assumes nothing.
+use Rattle.std.proofs.Common.{◌≡◌, ℕ, ◌+◌, ◌/◌, ◌%◌, ◌^◌, ◌<◌, ◌≤◌, Bool, true, false, not, cond, eqb, ltb, List, length, take, decimal, Some, None, sym, refl, ap, ◌∙◌, arith}
 use Rattle.std.specs.List.{position, prefix_len}
-use Rattle.std.proofs.lemmas.List.{length-take, take_all}
+use Rattle.std.proofs.lemmas.Fmt.{decimal_step}
+use Rattle.std.proofs.lemmas.List.{length-take, length_push, take_all}
 use Rattle.std.proofs.lemmas.Bool.{ltb-false}
 use Rattle.book_listing.specs.Text.{until_zero}
 
@@ -25,3 +26,7 @@ module _ (key : List ℕ) where
       go : (t : Bool) → ltb first (length key) ≡ t → cond t (Some first) None ≡ None → key ≡ until_zero key
       go true h e = absurd cc
       go false h e = sym (take_all first key (ltb-false first (length key) h))
+
+-- a figure more
+pub longer_by_one : (n : ℕ) → 10 ≤ n → n < 2 ^ 64 → length (decimal n) ≡ length (decimal (n / 10)) + 1
+longer_by_one n h fits = ap length (decimal_step n h fits) ∙ length_push (decimal (n / 10)) (48 + n % 10)

@@ -1,13 +1,15 @@
 -- The text of a batch of postings: it is that of its book, and 364 bytes hold it. Assumes nothing.
-use Rattle.std.proofs.Common.{◌≡◌, ℕ, ◌+◌, ◌*◌, ◌^◌, ◌<◌, ◌≤◌, List, [], ◌∷◌, ◌++◌, map, reverse, length, decimal, sym, refl, ap, ◌∙◌, subst, mul-suc, mul-add, arith, lit<}
+use Rattle.std.proofs.Common.{◌≡◌, ℕ, zero, suc, ◌+◌, ◌-◌, ◌*◌, ◌^◌, ◌<◌, ◌≤◌, List, [], ◌∷◌, ◌++◌, map, reverse, length, get_or, take, decimal, sym, refl, ap, ◌∙◌, subst, mul-suc, mul-add, arith, lit<}
 use mathlib.Core.List.{reverse_aux}
 use Rattle.std.specs.List.{flat_map, AllByRecursion}
 use Rattle.std.proofs.lemmas.Fmt.{decimal_digit, length-decimal-le}
-use Rattle.std.proofs.lemmas.List.{append_assoc, append-nil, map-append, reverse-append, length-append, length-map, length-reverse}
+use Rattle.std.proofs.lemmas.List.{append_assoc, append-nil, map-append, reverse-append, length-append, length-map, length-reverse, get_or-reverse, get_or-map, get_or_append_left, get_or-append-add}
 use Rattle.refusals.specs.Refusals.{Accepted}
+use Rattle.batches.specs.declared.line.Sign.TheVariants.{Posting}
 use Rattle.batches.specs.declared.line.Line.{Line}
 use Rattle.batches.specs.Layout.{Row, lines_of, Rising, RowFits}
-use Rattle.book.specs.Looking.{rows_under}
+use Rattle.batches.specs.Rows.{lines_before, no_row}
+use Rattle.book.specs.Looking.{Listed, rows_under}
 use Rattle.book.specs.Laws.{as_held}
 use Rattle.book_listing.specs.Text.{text_line, until_zero, all_rows, row_text, text_of}
 use Rattle.book_listing.specs.Writing.{postings_text, batch_text}
@@ -15,6 +17,12 @@ use Rattle.book_listing.proofs.Cutting.{until_short}
 
 abbrev pub number_of_line : Line → ℕ
 number_of_line line = line.number
+
+abbrev pub no_line : Line
+no_line = record { sign = Posting; number = 0 }
+
+abbrev pub no_listed : Listed
+no_listed = record { key = []; posting = 0 }
 
 joined_append : {X A : Type 0} (f : X → List A) (xs ys : List X) → flat_map f (xs ++ ys) ≡ flat_map f xs ++ flat_map f ys
 joined_append f [] ys = refl
@@ -42,6 +50,31 @@ unfolding batch_text
 text_of_rows rows =
     ap (λ (n : ℕ). text_line (decimal 0) n ++ flat_map row_text (all_rows (map as_held rows))) (rows_counted rows)
     ∙ ap (λ (xs : List ℕ). text_line (decimal 0) (length (lines_of rows)) ++ xs) (rows_text rows)
+
+-- row k of those that a batch row gives has the number of its line m, where k and m count from its two ends
+pub listed_at : (row : Row) (k m : ℕ) → k + m + 1 ≡ length row.lines → get_or (rows_under (as_held row)) k no_listed ≡ record { key = row.key; posting = (get_or row.lines m no_line).number }
+listed_at row k m e =
+    let numbers = map number_of_line row.lines in
+    let long = length-map row.lines number_of_line in
+    let there : k < length (reverse numbers) = omega (arith, length-reverse numbers) in
+    let within : k < length numbers = omega arith in
+    let place : length numbers - 1 - k ≡ m = omega arith in
+    let inside : m < length row.lines = omega arith in
+    get_or-map (λ (n : ℕ). record { key = row.key; posting = n }) (reverse numbers) k 0 no_listed there
+    ∙ ap (λ (n : ℕ). record { key = row.key; posting = n })
+    (get_or-reverse numbers k 0 within ∙ ap (λ (i : ℕ). get_or numbers i 0) place ∙ get_or-map number_of_line row.lines m no_line 0 inside)
+
+-- line m of row i in the file
+pub line_of_row : (rows : List Row) (i m : ℕ) → i < length rows → m < length (get_or rows i no_row).lines → get_or (lines_of rows) (lines_before rows i + m) no_line ≡ get_or (get_or rows i no_row).lines m no_line
+line_of_row [] i m h k = absurd (omega arith)
+line_of_row (row ∷ rows) zero m h k =
+    let e : 0 + m ≡ m = omega arith in
+    ap (λ (n : ℕ). get_or (row.lines ++ lines_of rows) n no_line) e ∙ get_or_append_left row.lines (lines_of rows) no_line m k
+line_of_row (row ∷ rows) (suc i) m h k =
+    let e : length (row.lines ++ lines_of (take i rows)) + m ≡ length row.lines + (lines_before rows i + m) = omega (arith, length-append row.lines (lines_of (take i rows))) in
+    ap (λ (n : ℕ). get_or (row.lines ++ lines_of rows) n no_line) e
+    ∙ get_or-append-add row.lines (lines_of rows) (lines_before rows i + m) no_line
+    ∙ line_of_row rows i m (omega arith) k
 
 -- how long a row's text is
 short_line : (key : List ℕ) (n : ℕ) → length key ≡ 24 → n < 2 ^ 63 → length (text_line (until_zero key) n) ≤ 45
