@@ -18,7 +18,7 @@ use Rattle.batches.proofs.Opened.{counts}
 use Rattle.batches.proofs.Refiling.{its_rows_fit}
 use Rattle.batches.proofs.Rowwise.{lines_counted}
 use Rattle.book.specs.Books.{Sorted}
-use Rattle.book.specs.Merging.{Booking, bookings_of, lines_under, line_answer, line_taken, lines_answer, lines_taken, is_posting, posting_lines, pages_answer, merge_answer, check_answer, RowsRise}
+use Rattle.book.specs.Merging.{Booking, bookings_of, lines_under, line_answer, line_taken, lines_answer, lines_taken, is_posting, posting_lines, merge_answer, check_answer, RowsRise}
 use Rattle.book.specs.Entries.{Entries, paged}
 use Rattle.book.proofs.Bookings.{KeysRise, accepted_keys}
 use Rattle.book.proofs.Paged.{paged_follows}
@@ -85,24 +85,16 @@ posting_counted (row ∷ rows) =
     ap length (filter-append posts row.lines (lines_of rows))
     ∙ omega (arith, length-append (filter posts row.lines) (filter posts (lines_of rows)), posting_counted rows, posting-++ row.key row.lines (lines_under rows))
 
+-- keys that were accepted are lawful
+pub keys_lawful : (kind : Kind) (code : ℕ) (rows : List Row) → kind_and_keys_answer kind code rows ≡ Accepted tt → LawfulKeys kind rows
+keys_lawful kind code rows e = lawful None rows (accepted_keys kind code rows e).1
+  where
+    lawful : (before : Option Field) (rows : List Row) → KeysRise kind before rows → LawfulKeys kind rows
+    lawful before [] k = tt
+    lawful before (row ∷ rows) k = (k.0, lawful (Some row.key) rows k.2)
+
 -- a merge from its check and its lines
 module _ (kind : Kind) (free code : ℕ) (rows : List Row) (list : Entries) where
-  -- keys that were accepted are lawful
-  pub keys_lawful : kind_and_keys_answer kind code rows ≡ Accepted tt → LawfulKeys kind rows
-  keys_lawful e = lawful None rows (accepted_keys kind code rows e).1
-    where
-      lawful : (before : Option Field) (rows : List Row) → KeysRise kind before rows → LawfulKeys kind rows
-      lawful before [] k = tt
-      lawful before (row ∷ rows) k = (k.0, lawful (Some row.key) rows k.2)
-
-  pub checked_lawful : Accepted tt ≡ check_answer kind paged free code rows list → LawfulKeys kind rows
-  unfolding check_answer
-  checked_lawful e = keys_lawful (then_first (kind_and_keys_answer kind code rows) (and_then (lines_answer kind paged 0 (lines_under rows) list) (pages_answer free (posting_lines (lines_under rows)))) tt e)
-    where
-      then_first : {A : Type 0} (a : Answer Unit) (b : Answer A) (x : A) → Accepted x ≡ and_then a b → a ≡ Accepted tt
-      then_first (Accepted met) b x e = refl
-      then_first (Refused number place) b x e = cc
-
   pub merge_refused : (number place : ℕ) → RowsRise rows → Sorted kind list → Refused number place ≡ check_answer kind paged free code rows list → merge_answer kind paged free code rows list ≡ Refused number place
   merge_refused number place r s e =
       checked_before paged paged_follows kind free code rows list r s ∙ ap (λ (a : Answer Unit). and_then a (Accepted (lines_taken kind paged (lines_under rows) list))) (sym e)

@@ -1,7 +1,8 @@
 -- The rows of a listing as the executable book finds and cuts them.
-use Rattle.std.proofs.Common.{◌≡◌, ℕ, ◌+◌, ◌-◌, ◌*◌, ◌/◌, ◌<◌, ◌≤◌, min, true, ◌⊎◌, List, [], ◌∷◌, ◌++◌, length, get_or, take, drop, Some, None, Option, sym, refl, ap, ◌∙◌, inl, inr, arith}
+use Rattle.std.proofs.Common.{◌≡◌, ℕ, ◌+◌, ◌-◌, ◌*◌, ◌/◌, ◌<◌, ◌≤◌, min, Bool, true, ◌⊎◌, List, [], ◌∷◌, ◌++◌, length, get_or, take, drop, filter, vec_items, Some, None, Option, sym, refl, ap, ◌∙◌, inl, inr, arith}
 use Rattle.std.specs.List.{flat_map, AllByRecursion}
 use Rattle.std.proofs.lemmas.List.{append_assoc, append-nil, length-take, length-drop, take_more, take_all, take_at, drop_at, drop_all, take-append-drop}
+use Rattle.std.proofs.lemmas.List.Elements.{filter-append}
 use Rattle.std.proofs.ByRecursion.{All-take, All-drop}
 use Rattle.std.proofs.lemmas.Bool.{cases_lt}
 use Rattle.refusals.specs.Refusals.{Accepted}
@@ -9,8 +10,10 @@ use Rattle.numbers.specs.BigEndian.{bytes_of}
 use Rattle.keys.specs.Kinds.{Kind, Field}
 use Rattle.book.specs.Books.{Held, Book, SortedFrom, Sorted}
 use Rattle.book.specs.Looking.{Listed, Listing, rows_under, listed_bytes, within, listed, rows_shown, buffer_with, list_answer, buffer_after_list}
-use Rattle.book.specs.Entries.{Entries, book_of}
+use Rattle.book.specs.Entries.{Entries, book_of, postings_in}
 use Rattle.book.proofs.Looking.{LawfulRow, length_rows, lawful_listed}
+use Rattle.plain_book.specs.declared.account.Account.{Account}
+use Rattle.plain_book.specs.Accounts.{entry_in, held_in, entries_of}
 
 joined-++ : {X A : Type 0} (f : X → List A) (xs ys : List X) → flat_map f (xs ++ ys) ≡ flat_map f xs ++ flat_map f ys
 joined-++ f [] ys = refl
@@ -34,6 +37,26 @@ add_more key ps i start before mid after h b m a =
 
 abbrev pub bytes_listed : Kind → (first second : Field) → Book → List ℕ
 bytes_listed kind first second book = flat_map listed_bytes (listed kind book first second)
+
+listed-++ : (kind : Kind) (first second : Field) (xs ys : Book) → bytes_listed kind first second (xs ++ ys) ≡ bytes_listed kind first second xs ++ bytes_listed kind first second ys
+listed-++ kind first second xs ys =
+    let wanted : Held (List ℕ) → Bool = λ (held : Held (List ℕ)). within kind first second held.key in
+    ap (λ (l : Book). flat_map listed_bytes (flat_map rows_under l)) (filter-append wanted xs ys)
+    ∙ (ap (flat_map listed_bytes) (joined-++ rows_under (filter wanted xs) (filter wanted ys)) ∙ joined-++ listed_bytes (flat_map rows_under (filter wanted xs)) (flat_map rows_under (filter wanted ys)))
+
+book_of-++ : (xs ys : List Account) → book_of (entries_of (xs ++ ys)) ≡ book_of (entries_of xs) ++ book_of (entries_of ys)
+book_of-++ [] ys = refl
+book_of-++ (x ∷ xs) ys = ap (λ (l : Book). record { key = vec_items x.key; value = postings_in (entry_in x) } ∷ l) (book_of-++ xs ys)
+
+-- the rows of one more account behind those before
+pub listed_more : (kind : Kind) (first second : Field) (accounts : List Account) (i : ℕ) (a : Account) (before after : List ℕ) → i < length accounts → a ≡ get_or accounts i a → before ≡ bytes_listed kind first second (book_of (entries_of (take i accounts)))
+    → after ≡ before ++ bytes_listed kind first second (book_of (held_in a ∷ [])) → after ≡ bytes_listed kind first second (book_of (entries_of (take (i + 1) accounts)))
+listed_more kind first second accounts i a before after h is b e =
+    let last : take (i + 1) accounts ≡ take i accounts ++ a ∷ [] = take_more accounts i a h ∙ ap (λ (x : Account). take i accounts ++ x ∷ []) (sym is) in
+    let one = held_in a ∷ [] in
+    e ∙ (ap (λ (t : List ℕ). t ++ bytes_listed kind first second (book_of one)) b
+    ∙ (sym (listed-++ kind first second (book_of (entries_of (take i accounts))) (book_of one))
+    ∙ (ap (bytes_listed kind first second) (sym (book_of-++ (take i accounts) (a ∷ []))) ∙ ap (λ (xs : List Account). bytes_listed kind first second (book_of (entries_of xs))) (sym last))))
 
 -- rows of 32 bytes, cut
 cut : (kind : Kind) (rows : List Listed) (k : ℕ) → AllByRecursion (LawfulRow kind) rows → k ≤ length rows → (take (32 * k) (flat_map listed_bytes rows) ≡ flat_map listed_bytes (take k rows)) × (drop (32 * k) (flat_map listed_bytes rows) ≡ flat_map listed_bytes (drop k rows))

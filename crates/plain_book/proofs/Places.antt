@@ -170,7 +170,7 @@ gap_past kind key lk [] s at within point past = record { in_range = within; low
 gap_past kind key lk (a ∷ rest) s at within point past = gap_at kind key lk (a ∷ rest) s at within a point (λ h e. omega arith)
 
 -- what a search of the accounts of a book finds
-module _ (kind : Kind) (key : Field) (lk : kind.lawful key ≡ true) (seen accounts : List Account) (list : Entries) (same : seen ≡ accounts) (view : entries_of accounts ≡ list) (sorted : Sorted kind (entries_of accounts)) (at : ℕ) (within : at ≤ length seen)
+module _ (kind : Kind) (key : Field) (lk : kind.lawful key ≡ true) (seen accounts : List Account) (same : seen ≡ accounts) (sorted : Sorted kind (entries_of accounts)) (at : ℕ) (within : at ≤ length seen)
     (search_ends : IsPartitionedBy (is_lower kind key) seen → IsPartitionPoint (λ a. is_lower kind key a ≡ true) (λ a. is_lower kind key a ≡ false) seen at) where
   sorted_seen : Sorted kind (entries_of seen)
   sorted_seen = subst (λ (xs : List Account). Sorted kind (entries_of xs)) (sym same) sorted
@@ -178,17 +178,14 @@ module _ (kind : Kind) (key : Field) (lk : kind.lawful key ≡ true) (seen accou
   point : IsPartitionPoint (λ a. is_lower kind key a ≡ true) (λ a. is_lower kind key a ≡ false) seen at
   point = search_ends (parted kind key lk seen sorted_seen)
 
-  shown : entries_of seen ≡ list
-  shown = ap entries_of same ∙ view
+  pub found_standing : (a : Account) → at < length seen → a ≡ get_or seen at a → vec_items a.key ≡ key → StandsAt kind key (entries_of accounts) at
+  found_standing a h is e = subst (λ (xs : List Account). StandsAt kind key (entries_of xs) at) same (stands_at kind key lk seen sorted_seen at within a point h (ap (λ (x : Account). vec_items x.key) (sym is) ∙ e))
 
-  pub found_standing : (a : Account) → at < length seen → a ≡ get_or seen at a → vec_items a.key ≡ key → StandsAt kind key list at
-  found_standing a h is e = subst (λ (l : Entries). StandsAt kind key l at) shown (stands_at kind key lk seen sorted_seen at within a point h (ap (λ (x : Account). vec_items x.key) (sym is) ∙ e))
+  pub found_other : (a : Account) → a ≡ get_or seen at a → (vec_items a.key ≡ key → ⊥) → GapAt kind key (entries_of accounts) at
+  found_other a is other = subst (λ (xs : List Account). GapAt kind key (entries_of xs) at) same (gap_at kind key lk seen sorted_seen at within a point (λ h e. other (ap (λ (x : Account). vec_items x.key) is ∙ e)))
 
-  pub found_other : (a : Account) → a ≡ get_or seen at a → (vec_items a.key ≡ key → ⊥) → GapAt kind key list at
-  found_other a is other = subst (λ (l : Entries). GapAt kind key l at) shown (gap_at kind key lk seen sorted_seen at within a point (λ h e. other (ap (λ (x : Account). vec_items x.key) is ∙ e)))
-
-  pub found_past : length seen ≤ at → GapAt kind key list at
-  found_past past = subst (λ (l : Entries). GapAt kind key l at) shown (gap_past kind key lk seen sorted_seen at within point past)
+  pub found_past : length seen ≤ at → GapAt kind key (entries_of accounts) at
+  found_past past = subst (λ (xs : List Account). GapAt kind key (entries_of xs) at) same (gap_past kind key lk seen sorted_seen at within point past)
 
 pub entries_removed : (accounts : List Account) (at : ℕ) → entries_of (remove accounts at) ≡ remove (entries_of accounts) at
 entries_removed accounts at = map-append held_in (take at accounts) (drop (suc at) accounts) ∙ rw (take-map held_in at accounts, drop-map held_in (suc at) accounts)
@@ -197,42 +194,45 @@ pub put_some : (accounts after : List Account) (at : ℕ) (a : Account) → is_e
 put_some accounts after at a some e = rw (some, e) (map-append held_in (take at accounts) (a ∷ drop at accounts) ∙ rw (take-map held_in at accounts, drop-map held_in at accounts))
 
 -- an account lifted out, changed and put back at its place, or a new one put in a gap
-module _ (kind : Kind) (key : Field) (lk : kind.lawful key ≡ true) (accounts : List Account) (list : Entries) (view : entries_of accounts ≡ list) (sorted : Sorted kind (entries_of accounts)) (at : ℕ) where
-  list_sorted : Sorted kind list
-  list_sorted = subst (Sorted kind) view sorted
+module _ (kind : Kind) (key : Field) (lk : kind.lawful key ≡ true) (accounts : List Account) (sorted : Sorted kind (entries_of accounts)) (at : ℕ) where
+  abbrev kept : Entries
+  kept = entries_of accounts
 
-  module _ (stands : StandsAt kind key list at) (after : List Account) (removed : after ≡ remove accounts at) where
-    lifted_is : entries_of after ≡ remove list at
-    lifted_is = ap entries_of removed ∙ (entries_removed accounts at ∙ ap (λ (l : Entries). remove l at) view)
+  module _ (stands : StandsAt kind key kept at) (after : List Account) (removed : after ≡ remove accounts at) where
+    lifted_is : entries_of after ≡ remove kept at
+    lifted_is = ap entries_of removed ∙ entries_removed accounts at
 
     pub lifted_sorted : Sorted kind (entries_of after)
-    lifted_sorted = subst (Sorted kind) (sym lifted_is) (lifted kind key lk list at list_sorted stands)
+    lifted_sorted = subst (Sorted kind) (sym lifted_is) (lifted kind key lk kept at sorted stands)
 
     pub changed_lifted : (f : Entry → Entry) (old new : Account) → old ≡ get_or accounts at old → held_in new ≡ record { key = vec_items old.key; value = f (entry_in old) }
-        → take at (entries_of after) ++ put paged (vec_items new.key) (entry_in new) (drop at (entries_of after)) ≡ changed kind paged key f list
+        → take at (entries_of after) ++ put paged (vec_items new.key) (entry_in new) (drop at (entries_of after)) ≡ changed kind paged key f kept
     changed_lifted f old new o n =
-        let within : at < length accounts = omega (arith, stands.in_range, ap length view, length-map accounts held_in) in
-        let held : get_or list at no_held ≡ held_in old = sym (ap (λ (l : Entries). get_or l at no_held) view) ∙ held_at accounts at old within o in
+        let within : at < length accounts = omega (arith, stands.in_range, length-map accounts held_in) in
+        let held : get_or kept at no_held ≡ held_in old = held_at accounts at old within o in
         let named : vec_items old.key ≡ key = sym (ap (λ (h : Held Entry). h.key) held) ∙ stands.has_key in
-        let is : held_in new ≡ record { key = key; value = f (get_or list at no_held).value } = n ∙ (ap (λ (k : Field). record { key = k; value = f (entry_in old) }) named ∙ ap (λ (h : Held Entry). record { key = key; value = f h.value }) (sym held)) in
-        let long : length (take at list) ≡ at = length-take-le at list (omega (arith, stands.in_range)) in
-        let front : take at (entries_of after) ≡ take at list = ap (take at) lifted_is ∙ take_at (take at list) (drop (suc at) list) at long in
-        let back : drop at (entries_of after) ≡ drop (suc at) list = ap (drop at) lifted_is ∙ drop_at (take at list) (drop (suc at) list) at long in
+        let is : held_in new ≡ record { key = key; value = f (get_or kept at no_held).value } = n ∙ (ap (λ (k : Field). record { key = k; value = f (entry_in old) }) named ∙ ap (λ (h : Held Entry). record { key = key; value = f h.value }) (sym held)) in
+        let long : length (take at kept) ≡ at = length-take-le at kept (omega (arith, stands.in_range)) in
+        let front : take at (entries_of after) ≡ take at kept = ap (take at) lifted_is ∙ take_at (take at kept) (drop (suc at) kept) at long in
+        let back : drop at (entries_of after) ≡ drop (suc at) kept = ap (drop at) lifted_is ∙ drop_at (take at kept) (drop (suc at) kept) at long in
         ap (λ (l : Entries). l ++ put paged (vec_items new.key) (entry_in new) (drop at (entries_of after))) front
-        ∙ (ap (λ (l : Entries). take at list ++ put paged (vec_items new.key) (entry_in new) l) back
-        ∙ (ap (λ (h : Held Entry). take at list ++ put paged h.key h.value (drop (suc at) list)) is ∙ sym (changed_there kind key lk f None list at list_sorted stands)))
+        ∙ (ap (λ (l : Entries). take at kept ++ put paged (vec_items new.key) (entry_in new) l) back
+        ∙ (ap (λ (h : Held Entry). take at kept ++ put paged h.key h.value (drop (suc at) kept)) is ∙ sym (changed_there kind key lk f None kept at sorted stands)))
 
-  pub changed_new : (f : Entry → Entry) (old new : Account) → GapAt kind key list at → held_in old ≡ record { key = key; value = paged.none } → held_in new ≡ record { key = vec_items old.key; value = f (entry_in old) }
-      → take at (entries_of accounts) ++ put paged (vec_items new.key) (entry_in new) (drop at (entries_of accounts)) ≡ changed kind paged key f list
+  pub changed_new : (f : Entry → Entry) (old new : Account) → GapAt kind key kept at → held_in old ≡ record { key = key; value = paged.none } → held_in new ≡ record { key = vec_items old.key; value = f (entry_in old) }
+      → take at kept ++ put paged (vec_items new.key) (entry_in new) (drop at kept) ≡ changed kind paged key f kept
   changed_new f old new gap o n =
-      ap (λ (l : Entries). take at l ++ put paged (vec_items new.key) (entry_in new) (drop at l)) view
-      ∙ (ap (λ (h : Held Entry). take at list ++ put paged h.key h.value (drop at list)) (n ∙ ap (λ (h : Held Entry). record { key = h.key; value = f h.value }) o)
-      ∙ sym (changed_gap kind key lk f None list at list_sorted gap))
+      ap (λ (h : Held Entry). take at kept ++ put paged h.key h.value (drop at kept)) (n ∙ ap (λ (h : Held Entry). record { key = h.key; value = f h.value }) o)
+      ∙ sym (changed_gap kind key lk f None kept at sorted gap)
 
-  pub changed_sorted_here : (f : Entry → Entry) (entries : Entries) → entries ≡ changed kind paged key f list → Sorted kind entries
-  changed_sorted_here f entries e = subst (Sorted kind) (sym e) (still_sorted kind key lk f list list_sorted)
+  pub changed_sorted_here : (f : Entry → Entry) (entries : Entries) → entries ≡ changed kind paged key f kept → Sorted kind entries
+  changed_sorted_here f entries e = subst (Sorted kind) (sym e) (still_sorted kind key lk f kept sorted)
 
 -- what holds whether a call gave a value or failed
 pub either_way : {A E P Q R : Type 0} (r : Result A E) → OnOk r P → OnErr r Q → (P → R) → (Q → R) → R
 either_way (Ok value) p q f g = f p
 either_way (Err error) p q f g = g q
+
+pub on_any_ok : {A E P : Type 0} (r : Result A E) → P → OnOk r P
+on_any_ok (Ok value) p = p
+on_any_ok (Err error) p = tt

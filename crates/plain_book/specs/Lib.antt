@@ -1,4 +1,5 @@
 pub mod Accounts
+pub mod Kept
 pub mod Places
 pub mod Lines
 pub mod Answers

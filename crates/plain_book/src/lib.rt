@@ -5,6 +5,7 @@ pub use account::Account;
 pub use failure::Failure;
 pub use kept::PlainBook;
 pub use looked::{Listing, Looked};
+pub use typed::BookOf;
 
 pub mod account;
 pub mod failure;
@@ -14,3 +15,4 @@ pub mod looked;
 mod looking;
 mod merging;
 mod position;
+pub mod typed;

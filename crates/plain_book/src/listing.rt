@@ -1,8 +1,10 @@
 ghost use Rattle.std.specs.Prelude.{◌≡◌, ◌-◌, ◌*◌, ◌/◌, true, min, [], ◌∷◌, ◌++◌, length, take, drop, IfOk, OnOk};
 ghost use Rattle.std.specs.List.{flat_map};
+ghost use Rattle.book.specs.Books.{Sorted};
 ghost use Rattle.book.specs.Entries.{book_of, postings_in};
 ghost use Rattle.book.specs.Looking.{within, rows_under, listed, listed_bytes, list_answer, buffer_after_list};
 ghost use Rattle.plain_book.specs.Accounts.{entry_in, held_in};
+ghost use Rattle.plain_book.specs.Kept.{entries_in};
 ghost use Rattle.plain_book.specs.Answers.{ListedAs};
 
 use crate::account::Account;
@@ -44,14 +46,11 @@ fn add_if_within<K: KeyKind>(
     second: &LawfulKey<K>,
     all: &mut Vec<u8>,
 ) -> Result<(), AllocError>
-    requires { K.kind.lawful account.now.key.items ≡ true }
-    ensures { OnOk result (all.new.items ≡ all.old.items ++ flat_map listed_bytes (listed K.kind (book_of (held_in account.now ∷ [])) first.now.field.now second.now.field.now)) }
+    ensures { K.kind.lawful account.now.key.items ≡ true → OnOk result (all.new.items ≡ all.old.items ++ flat_map listed_bytes (listed K.kind (book_of (held_in account.now ∷ [])) first.now.field.now second.now.field.now)) }
 {
-    let key = LawfulKey {
-        field: account.key.as_slice(),
-        kind: PhantomData,
-    };
-    if is_within(&key, first, second) {
+    if let Some(key) = LawfulKey::<K>::check(account.key.as_slice())
+        && is_within(&key, first, second)
+    {
         return add_rows(account, heap, all);
     }
     Ok(())
@@ -70,15 +69,15 @@ fn show(rows: &[u8], skip: usize, buffer: &mut [u8]) -> Listing
     Listing { total, rows: count }
 }
 
-impl<K: KeyKind> PlainBook<K> {
+impl PlainBook {
     // The bytes of all rows from one key to another.
-    fn rows_between(
+    fn rows_between<K: KeyKind>(
         &self,
         heap: Global,
         first: &LawfulKey<K>,
         second: &LawfulKey<K>,
     ) -> Result<Vec<u8>, AllocError>
-        ensures { IfOk result (λ v. v.items ≡ flat_map listed_bytes (listed K.kind (book_of self.now) first.now.field.now second.now.field.now)) }
+        ensures { Sorted K.kind (entries_in self.now) → IfOk result (λ v. v.items ≡ flat_map listed_bytes (listed K.kind (book_of (entries_in self.now)) first.now.field.now second.now.field.now)) }
     {
         let mut all = Vec::new(heap);
         for account in self.accounts.iter() {
@@ -88,7 +87,7 @@ impl<K: KeyKind> PlainBook<K> {
     }
 
     /// Writes the postings of the keys from the first to the second as rows of 32 bytes.
-    pub fn list(
+    pub fn list<K: KeyKind>(
         &self,
         heap: Global,
         first: &[u8],
@@ -96,7 +95,7 @@ impl<K: KeyKind> PlainBook<K> {
         skip: usize,
         buffer: &mut [u8],
     ) -> Result<Listing, Failure>
-        ensures lists_as_said { ListedAs (list_answer K.kind (book_of self.now) first.now second.now skip (length buffer.old)) (buffer_after_list K.kind (book_of self.now) first.now second.now skip buffer.old) buffer.old result buffer.new }
+        ensures lists_as_said { Sorted K.kind (entries_in self.now) → ListedAs (list_answer K.kind (book_of (entries_in self.now)) first.now second.now skip (length buffer.old)) (buffer_after_list K.kind (book_of (entries_in self.now)) first.now second.now skip buffer.old) buffer.old result buffer.new }
     {
         let Some(low) = K::check(first) else {
             return Err(Failure::Refuses(Refusal::Key(0)));
@@ -104,16 +103,14 @@ impl<K: KeyKind> PlainBook<K> {
         let Some(high) = K::check(second) else {
             return Err(Failure::Refuses(Refusal::Key(1)));
         };
-        let low = LawfulKey {
+        let low = LawfulKey::<K> {
             field: low,
             kind: PhantomData,
         };
-        let high = LawfulKey {
+        let high = LawfulKey::<K> {
             field: high,
             kind: PhantomData,
         };
-        // The proof reads here that the keys of the book rise.
-        let _accounts = &self.accounts;
         let rows = self.rows_between(heap, &low, &high)?;
         Ok(show(rows.as_slice(), skip, buffer))
     }

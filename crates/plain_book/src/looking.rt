@@ -1,8 +1,9 @@
 ghost use Rattle.std.specs.Prelude.{◌≡◌, true, ◌++◌, map, length, take, drop, vec_items};
-ghost use Rattle.book.specs.Books.{value_at};
+ghost use Rattle.book.specs.Books.{value_at, Sorted};
 ghost use Rattle.book.specs.Entries.{book_of, paged};
 ghost use Rattle.book.specs.Looking.{lookup_answer, list_after_lookup};
 ghost use Rattle.plain_book.specs.Accounts.{entry_in};
+ghost use Rattle.plain_book.specs.Kept.{entries_in};
 ghost use Rattle.plain_book.specs.Answers.{LookedAs, AccountIs};
 
 use crate::account::Account;
@@ -24,15 +25,20 @@ fn fill(list: &mut [u64], new: &[u64]) -> usize
     count
 }
 
-impl<K: KeyKind> PlainBook<K> {
+impl PlainBook {
     /// Writes as many postings of a key, the newest first, as the list holds.
-    pub fn lookup(&self, heap: Global, key: &[u8], list: &mut [u64]) -> Result<Looked, Failure>
-        ensures looks_up_as_said { LookedAs (lookup_answer K.kind (book_of self.now) key.now (length list.old)) (list_after_lookup K.kind (book_of self.now) key.now list.old) list.old result list.new }
+    pub fn lookup<K: KeyKind>(
+        &self,
+        heap: Global,
+        key: &[u8],
+        list: &mut [u64],
+    ) -> Result<Looked, Failure>
+        ensures looks_up_as_said { Sorted K.kind (entries_in self.now) → LookedAs (lookup_answer K.kind (book_of (entries_in self.now)) key.now (length list.old)) (list_after_lookup K.kind (book_of (entries_in self.now)) key.now list.old) list.old result list.new }
     {
         let Some(part) = K::check(key) else {
             return Err(Failure::Refuses(Refusal::Key(0)));
         };
-        let key = LawfulKey {
+        let key = LawfulKey::<K> {
             field: part,
             kind: PhantomData,
         };
@@ -45,10 +51,10 @@ impl<K: KeyKind> PlainBook<K> {
     }
 
     /// The account of a key, if it has postings.
-    pub fn account(&self, key: &[u8]) -> Option<&Account>
-        ensures is_the_entry_of_the_key { K.kind.lawful key.now ≡ true → AccountIs (value_at K.kind paged key.now self.now) result }
+    pub fn account<K: KeyKind>(&self, key: &[u8]) -> Option<&Account>
+        ensures is_the_entry_of_the_key { Sorted K.kind (entries_in self.now) → K.kind.lawful key.now ≡ true → AccountIs (value_at K.kind paged key.now (entries_in self.now)) result }
     {
-        self.account_there(&LawfulKey::check(key)?)
+        self.account_there(&LawfulKey::<K>::check(key)?)
     }
 }
 

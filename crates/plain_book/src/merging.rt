@@ -3,8 +3,10 @@ ghost use Rattle.refusals.specs.Refusals.{answer_of};
 ghost use Rattle.batches.specs.Reading.{rows_in, kind_code};
 ghost use Rattle.batches.specs.Opening.{opens};
 ghost use Rattle.batches.specs.Rows.{row_read};
+ghost use Rattle.book.specs.Books.{Sorted};
 ghost use Rattle.book.specs.Merging.{bookings_of, lines_under, posting_lines, pages_answer, standing, lines_answer, lines_taken, check_answer, merge_answer, RowsRise};
 ghost use Rattle.book.specs.Entries.{paged};
+ghost use Rattle.plain_book.specs.Kept.{entries_in};
 ghost use Rattle.plain_book.specs.Lines.{LawfulKeys};
 ghost use Rattle.plain_book.specs.Answers.{MergedAs};
 
@@ -58,14 +60,14 @@ fn numbers_rise(bytes: &[u8])
     ensures { RowsRise (rows_in bytes.now) }
 {}
 
-impl<K: KeyKind> PlainBook<K> {
+impl PlainBook {
     // The first line of a row that does not fit the book as it stands.
-    fn check_row(&self, row: &OpenRow) -> Result<(), Refusal>
+    fn check_row<K: KeyKind>(&self, row: &OpenRow) -> Result<(), Refusal>
         requires key_is_lawful { K.kind.lawful row.now.key.now ≡ true }
         requires lines_are_few { row.now.first + row.now.count ≤ 1024 }
-        ensures { answer_of result ≡ lines_answer K.kind paged row.now.first (bookings_of (row_read row.now)) self.now }
+        ensures { Sorted K.kind (entries_in self.now) → answer_of result ≡ lines_answer K.kind paged row.now.first (bookings_of (row_read row.now)) (entries_in self.now) }
     {
-        let key = LawfulKey {
+        let key = LawfulKey::<K> {
             field: row.key,
             kind: PhantomData,
         };
@@ -77,32 +79,34 @@ impl<K: KeyKind> PlainBook<K> {
     }
 
     // The first line that does not fit the book as it stands.
-    fn check_lines(&self, batch: &OpenBatch) -> Result<(), Refusal>
+    fn check_lines<K: KeyKind>(&self, batch: &OpenBatch) -> Result<(), Refusal>
         requires { LawfulKeys K.kind (rows_in batch.now.bytes.now) }
-        ensures { answer_of result ≡ lines_answer K.kind paged 0 (lines_under (rows_in batch.now.bytes.now)) self.now }
+        ensures { Sorted K.kind (entries_in self.now) → answer_of result ≡ lines_answer K.kind paged 0 (lines_under (rows_in batch.now.bytes.now)) (entries_in self.now) }
     {
         for row in batch.rows() {
-            self.check_row(&row)?;
+            self.check_row::<K>(&row)?;
         }
         Ok(())
     }
 
     // All that a merge wants: kind and keys, then the lines, then pages.
     #[tactic(auto, unfolding(book::specs::Merging::check_answer))]
-    fn check(&self, free: usize, batch: &OpenBatch) -> Result<(), Refusal>
-        ensures { answer_of result ≡ check_answer K.kind paged free (kind_code batch.now.bytes.now) (rows_in batch.now.bytes.now) self.now }
+    fn check<K: KeyKind>(&self, free: usize, batch: &OpenBatch) -> Result<(), Refusal>
+        ensures answers { Sorted K.kind (entries_in self.now) → answer_of result ≡ check_answer K.kind paged free (kind_code batch.now.bytes.now) (rows_in batch.now.bytes.now) (entries_in self.now) }
+        ensures keys_are_lawful { OnOk result (LawfulKeys K.kind (rows_in batch.now.bytes.now)) }
     {
         check_kind_and_keys::<K>(batch)?;
-        self.check_lines(batch)?;
+        self.check_lines::<K>(batch)?;
         check_pages(free, batch)
     }
 
     // The lines of a row in order.
-    fn take_row(&mut self, heap: Global, row: &OpenRow) -> Result<(), AllocError>
+    fn take_row<K: KeyKind>(&mut self, heap: Global, row: &OpenRow) -> Result<(), AllocError>
         requires { K.kind.lawful row.now.key.now ≡ true }
-        ensures { OnOk result (self.new ≡ lines_taken K.kind paged (bookings_of (row_read row.now)) self.old) }
+        ensures taken { Sorted K.kind (entries_in self.old) → OnOk result (entries_in self.new ≡ lines_taken K.kind paged (bookings_of (row_read row.now)) (entries_in self.old)) }
+        ensures rising { Sorted K.kind (entries_in self.old) → Sorted K.kind (entries_in self.new) }
     {
-        let key = LawfulKey {
+        let key = LawfulKey::<K> {
             field: row.key,
             kind: PhantomData,
         };
@@ -113,25 +117,30 @@ impl<K: KeyKind> PlainBook<K> {
     }
 
     // All lines in order.
-    fn take_lines(&mut self, heap: Global, batch: &OpenBatch) -> Result<(), AllocError>
+    fn take_lines<K: KeyKind>(&mut self, heap: Global, batch: &OpenBatch) -> Result<(), AllocError>
         requires { LawfulKeys K.kind (rows_in batch.now.bytes.now) }
-        ensures { OnOk result (self.new ≡ lines_taken K.kind paged (lines_under (rows_in batch.now.bytes.now)) self.old) }
+        ensures taken { Sorted K.kind (entries_in self.old) → OnOk result (entries_in self.new ≡ lines_taken K.kind paged (lines_under (rows_in batch.now.bytes.now)) (entries_in self.old)) }
+        ensures rising { Sorted K.kind (entries_in self.old) → Sorted K.kind (entries_in self.new) }
     {
         for row in batch.rows() {
-            self.take_row(heap, &row)?;
+            self.take_row::<K>(heap, &row)?;
         }
         Ok(())
     }
 
     /// Merges an open batch, as if so many pages were free, and leaves the batch open: answers the number of keys.
-    pub fn merge(&mut self, heap: Global, free: usize, batch: &OpenBatch) -> Result<usize, Failure>
-        ensures merges_as_said_of_entries { MergedAs (merge_answer K.kind paged free (kind_code batch.now.bytes.now) (rows_in batch.now.bytes.now) self.old) self.old result self.new }
+    pub fn merge<K: KeyKind>(
+        &mut self,
+        heap: Global,
+        free: usize,
+        batch: &OpenBatch,
+    ) -> Result<usize, Failure>
+        ensures merges_as_said_of_entries { Sorted K.kind (entries_in self.old) → MergedAs (merge_answer K.kind paged free (kind_code batch.now.bytes.now) (rows_in batch.now.bytes.now) (entries_in self.old)) (entries_in self.old) result (entries_in self.new) }
+        ensures keeps_the_keys_rising { Sorted K.kind (entries_in self.old) → Sorted K.kind (entries_in self.new) }
     {
-        // The proof reads here that the keys of the book rise.
-        let _accounts = &self.accounts;
         numbers_rise(batch.bytes());
-        self.check(free, batch)?;
-        self.take_lines(heap, batch)?;
+        self.check::<K>(free, batch)?;
+        self.take_lines::<K>(heap, batch)?;
         Ok(self.accounts.len())
     }
 }

@@ -6,7 +6,7 @@ use desk::word_batch;
 use keys::NarrationWord;
 use narration::{Reader, Token};
 use numbers::BigEndian;
-use plain_book::{Failure, PlainBook};
+use plain_book::{BookOf, Failure};
 use std::alloc::AllocError;
 
 /// Free pages that merges are judged by: those of a new index over 64 pages.
@@ -16,7 +16,7 @@ const FREE: usize = 62;
 type Key = [u8; 24];
 
 /// A book whose keys are words of narrations.
-type WordBook = PlainBook<NarrationWord>;
+type WordBook = BookOf<NarrationWord>;
 
 // The letters of a key, up to its zeros.
 fn letters(rt: &HostRuntime, key: &[u8]) -> Result<String, AllocError> {
