@@ -1,9 +1,10 @@
 -- Laws of zeros, bytes and numbers in fields.
-use Rattle.std.specs.Prelude.{◌≡◌, ℕ, zero, suc, ◌+◌, ◌^◌, ◌<◌, ◌≤◌, true, List, [], ◌∷◌, ◌++◌, length, take, drop, replicate, ◌==◌, nat_lt, refl}
+use Rattle.std.specs.Prelude.{◌≡◌, ℕ, zero, suc, ◌+◌, ◌-◌, ◌^◌, ◌<◌, ◌≤◌, Bool, true, ◌&&◌, List, [], ◌∷◌, ◌++◌, length, take, drop, replicate, ◌==◌, nat_lt, refl}
 use Rattle.std.proofs.Common.{sym, ap, subst, ◌∙◌, arith, take-append-drop}
 use Rattle.std.proofs.lemmas.Int.Digits.{number_lt}
 use Rattle.std.proofs.ByRecursion.{All-take, All-drop}
-use Rattle.std.proofs.lemmas.List.{drop-drop}
+use Rattle.std.proofs.lemmas.List.{drop-drop, take_rest}
+use Rattle.std.proofs.Math.Bool.{and-true}
 use Rattle.std.proofs.lemmas.Bool.{and_parts, and_from, eqb-true, ltb-true, lt-ltb}
 use Rattle.numbers.specs.BigEndian.{Bytes, bytes_of, number_of, number_at, part}
 use Rattle.numbers.proofs.Spelling.{bytes_of_number, number_is, length_part}
@@ -54,3 +55,8 @@ same_by_two_numbers a b long_a long_b bytes-a bytes-b first second rest =
     let front = same_part 0 4 a b (omega arith) (omega arith) bytes-a bytes-b first in
     let middle = same_part 4 4 a b (omega arith) (omega arith) bytes-a bytes-b second in
     sym (in_three a) ∙ (λ i. front i ++ (middle i ++ rest i)) ∙ in_three b
+
+-- the answer of a look at the zeros from a place on, where the field is known to hold bytes
+pub zeros_told : (f : Field) (n : ℕ) (r : Bool) → Bytes f → r ≡ zeros_only (take (length f - n) (drop n f)) → r ≡ (zeros_only (drop n f) && bytes_only f)
+zeros_told f n r all e =
+    e ∙ ap zeros_only (take_rest f n) ∙ sym (ap (λ t. zeros_only (drop n f) && t) (test_from_bytes f all) ∙ and-true (zeros_only (drop n f)))

@@ -1,13 +1,13 @@
-use Rattle.std.proofs.Common.{◌<◌, arith}
+use Rattle.std.proofs.Common.{◌<◌, ◌&&◌, drop, ap, ◌∙◌}
 use Rattle.std.proofs.ByRecursion.{All-from_get_or}
-use Rattle.std.proofs.lemmas.Bool.Decides.{nat_tests}
-use Rattle.std.proofs.lemmas.Grind.{common_steps}
-use Rattle.keys.specs.FieldLaws.{test_from_bytes}
+use Rattle.keys.specs.Fields.{zeros_only, bytes_only}
+use Rattle.keys.specs.FieldLaws.{zeros_told}
 use Rattle.branch_kind.specs.Vouchers.{voucher_zeros}
 use Rattle.branch_kind.proofs.is_voucher.Goals as goal
 
 pub returns-then-is_branch : goal.returns-then-is_branch
 unfolding voucher_zeros
 returns-then-is_branch c =
-    let bytes = test_from_bytes c.args.field.now (All-from_get_or (λ b. b < 256) c.args.field.now 0 (λ i h. (c.type_inv.field i).fits)) in
-    record { tells_vouchers = grind (arith, nat_tests, common_steps) }
+    let f = c.args.field.now in
+    let all = All-from_get_or (λ b. b < 256) f 0 (λ i h. (c.type_inv.field i).fits) in
+    record { tells_vouchers = zeros_told f 8 c.are_zeros.result all c.are_zeros.ensures.tells_zeros ∙ ap (λ t. t && (zeros_only (drop 8 f) && bytes_only f)) c.if-is_branch.ensures.tells_branches }
