@@ -44,7 +44,7 @@ fn check_keys<K: KeyKind>(batch: &OpenBatch) -> Result<(), Refusal>
 pub fn check_kind_and_keys<K: KeyKind>(batch: &OpenBatch) -> Result<(), Refusal>
     ensures refused_for_the_kind_then_for_the_first_bad_row { answer_of result ≡ kind_and_keys_answer K.kind (kind_code batch.now.bytes.now) (rows_in batch.now.bytes.now) }
 {
-    if batch.kind_code() != K::CODE {
+    if batch.kind_code() != K::kind_code() {
         return Err(Refusal::Kind);
     }
     check_keys::<K>(batch)

@@ -1,7 +1,7 @@
 //! An example of a maker's own key kind, to copy from: vouchers by branch and number.
 #![tactic(auto)]
 
-ghost use Rattle.std.specs.Prelude.{refl, ◌≡◌, ◌≤◌, length};
+ghost use Rattle.std.specs.Prelude.{◌≡◌, ◌≤◌, length};
 ghost use Rattle.branch_kind.specs.Vouchers.{branch_of, voucher_of, capitals, voucher_zeros};
 ghost use Rattle.branch_kind.specs.BranchKind.{branch_kind};
 
@@ -47,9 +47,11 @@ pub struct BranchVoucher;
 impl KeyKind for BranchVoucher {
     const CODE: u8 = 66;
 
-    ghost CODE = { 66 };
-
     ghost kind = { branch_kind };
+
+    fn kind_code() -> u8 {
+        Self::CODE
+    }
 
     fn check(field: &[u8]) -> Option<&[u8]> {
         (field.len() == 24 && is_voucher(field)).then_some(field)
@@ -58,6 +60,4 @@ impl KeyKind for BranchVoucher {
     fn compare(a: &[u8], b: &[u8]) -> Ordering {
         (branch(a), number(a)).cmp(&(branch(b), number(b)))
     }
-
-    ghost is_the_code_of_the_kind = { refl };
 }

@@ -1,6 +1,6 @@
 //! Kind 2: an account and a day.
 
-ghost use Rattle.std.specs.Prelude.{refl, ◌≡◌, ◌≤◌, length};
+ghost use Rattle.std.specs.Prelude.{◌≡◌, ◌≤◌, length};
 ghost use Rattle.keys.specs.AccountDays.{account_of, day_of, account_day_zeros};
 ghost use Rattle.keys.specs.BuiltIn.{account_day_kind};
 
@@ -39,9 +39,11 @@ pub struct AccountAndDay;
 impl KeyKind for AccountAndDay {
     const CODE: u8 = 2;
 
-    ghost CODE = { 2 };
-
     ghost kind = { account_day_kind };
+
+    fn kind_code() -> u8 {
+        Self::CODE
+    }
 
     fn check(field: &[u8]) -> Option<&[u8]> {
         (field.len() == 24 && are_account_day_zeros(field)).then_some(field)
@@ -50,6 +52,4 @@ impl KeyKind for AccountAndDay {
     fn compare(a: &[u8], b: &[u8]) -> Ordering {
         (account(a), day(a)).cmp(&(account(b), day(b)))
     }
-
-    ghost is_the_code_of_the_kind = { refl };
 }

@@ -1,7 +1,7 @@
 //! Key kinds: which fields of 24 bytes are keys, and how two keys compare.
 #![tactic(auto)]
 
-ghost use Rattle.std.specs.Prelude.{◌≡◌, ℕ, true, ◌&&◌, if◌then◌else◌, Some, None, Decides};
+ghost use Rattle.std.specs.Prelude.{◌≡◌, true, ◌&&◌, if◌then◌else◌, Some, None, Decides};
 ghost use Rattle.refusals.specs.Refusals.{answer_of, Accepted, Refused};
 ghost use Rattle.keys.specs.Kinds.{Field, Kind, below};
 ghost use Rattle.keys.specs.Words.{Word};
@@ -31,16 +31,12 @@ pub trait KeyKind {
     /// The code of the kind, as batches and headers carry it.
     const CODE: u8;
 
-    ghost CODE: { ℕ };
-
     ghost kind: { Kind };
 
-    /// The code, by a call.
+    /// The code, as generic code compares it: each kind answers its constant.
+    // A number and no enum: makers have kinds of their own, of which a law over the constant would ask more.
     fn kind_code() -> u8
-        ensures is_the_code { result ≡ kind.code }
-    {
-        Self::CODE
-    }
+        ensures is_the_code { result ≡ kind.code };
 
     /// The caller's own bytes where they are a lawful field, else nothing.
     // Each kind has its own body, a line over its own test.
@@ -52,8 +48,6 @@ pub trait KeyKind {
         requires first_is_lawful { kind.lawful a.now ≡ true }
         requires second_is_lawful { kind.lawful b.now ≡ true }
         ensures is_the_order { result ≡ kind.order a.now b.now };
-
-    ghost is_the_code_of_the_kind: { CODE ≡ kind.code };
 }
 
 /// The caller's own bytes where they are a lawful field, else KEY with the place that the caller names.
@@ -84,5 +78,5 @@ pub fn kinds_are_as_said() -> bool
     ensures kind_2_goes_by_account_and_then_by_day { AccountsThenDays }
     ensures worked_comparisons_come_out { WorkedComparisons }
 {
-    NarrationWord::CODE == 1 && AccountAndDay::CODE == 2
+    (NarrationWord::kind_code(), AccountAndDay::kind_code()) == (1, 2)
 }

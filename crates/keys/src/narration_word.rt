@@ -1,6 +1,6 @@
 //! Kind 1: words of a narration.
 
-ghost use Rattle.std.specs.Prelude.{refl, ◌≡◌};
+ghost use Rattle.std.specs.Prelude.{◌≡◌};
 ghost use Rattle.keys.specs.Words.{letters_then_zeros};
 ghost use Rattle.keys.specs.BuiltIn.{word_kind};
 
@@ -24,9 +24,11 @@ pub struct NarrationWord;
 impl KeyKind for NarrationWord {
     const CODE: u8 = 1;
 
-    ghost CODE = { 1 };
-
     ghost kind = { word_kind };
+
+    fn kind_code() -> u8 {
+        Self::CODE
+    }
 
     fn check(field: &[u8]) -> Option<&[u8]> {
         (field.len() == 24 && are_letters_then_zeros(field)).then_some(field)
@@ -35,6 +37,4 @@ impl KeyKind for NarrationWord {
     fn compare(a: &[u8], b: &[u8]) -> Ordering {
         a.cmp(&b)
     }
-
-    ghost is_the_code_of_the_kind = { refl };
 }

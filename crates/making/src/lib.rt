@@ -110,5 +110,5 @@ pub fn make<S: PageStore, K: KeyKind>(store: &mut S) -> Result<(), Refusal>
     ensures pages_are_few { count_of (S.meaning store.old) ≤ 65536 }
 {
     let pages = Pages::enough(store.count())?;
-    write_empty_tree(store, K::CODE, pages)
+    write_empty_tree(store, K::kind_code(), pages)
 }

@@ -44,7 +44,7 @@ fn child_for<K: KeyKind>(node: &InnerNode, key: &[u8]) -> Option<u32>
 fn is_plausible<K: KeyKind>(header: &Header, count: u32) -> bool
     ensures tells_what_can_be { result ≡ plausible K.kind count (header_of header.now) }
 {
-    header.kind_code == K::CODE
+    header.kind_code == K::kind_code()
         && header.pages == count
         && (1..=MOST_LEVELS).contains(&header.height)
 }
