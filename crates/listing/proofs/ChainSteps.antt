@@ -7,6 +7,7 @@ use Rattle.page_store.specs.Meanings.{Meaning, count_of}
 use Rattle.keys.specs.Kinds.{Field}
 use Rattle.nodes.specs.declared.records.Record.{Record}
 use Rattle.nodes.specs.Layout.{RecordPage, record_image, RecordFits}
+use Rattle.nodes.specs.Few.{items}
 use Rattle.nodes.specs.Meanings.{record_of}
 use Rattle.book.specs.Looking.{Listed}
 use Rattle.tree.specs.Trees.{RecordAt}
@@ -92,7 +93,7 @@ module _ (m : Meaning) {key : Field} {head at skip : ℕ} {buffer : List ℕ} {s
       record_is_read {refusal = refusal} {r = r} read e = read_is_ok record_image RecordFits record_of m page (record_in there.first there.rest) there.stands refusal r read e
 
       along_more : (x : Record) (r : Result Record Refusal) → NodeRead record_image RecordFits record_of m page r → r ≡ Ok x
-          → (postings : List ℕ) → postings ≡ x.postings.items → (after : List ℕ) → after ≡ filled skip next (rows_of key postings) now'
+          → (postings : List ℕ) → postings ≡ items x.postings → (after : List ℕ) → after ≡ filled skip next (rows_of key postings) now'
           → Along m.pages key records at skip buffer (step + 1) x.next (next + length postings) after
       along_more x r read e postings same after put =
           let is : record_of x ≡ record_in there.first there.rest = read_is record_image RecordFits record_of m page (record_in there.first there.rest) there.stands x r read e in
@@ -118,6 +119,6 @@ module _ (m : Meaning) {key : Field} {head at skip : ℕ} {buffer : List ℕ} {s
     chain_never_so_long past = let few = here.left_end in omega arith
 
   pub chain_more : (page ≡ 0 → ⊥) → {x : Record} {r : Result Record Refusal} → NodeRead record_image RecordFits record_of m page r → r ≡ Ok x
-      → {postings : List ℕ} → postings ≡ x.postings.items → {after : List ℕ} → after ≡ filled skip next (rows_of key postings) now'
+      → {postings : List ℕ} → postings ≡ items x.postings → {after : List ℕ} → after ≡ filled skip next (rows_of key postings) now'
       → ChainSoFar m.pages key head at skip buffer (step + 1) x.next (next + length postings) after
   chain_more some {x = x} {r = r} read e {postings = postings} same {after = after} put = record { along = λ records readable. along_more readable some x r read e postings same after put }

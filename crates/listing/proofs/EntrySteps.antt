@@ -5,6 +5,7 @@ use Rattle.std.proofs.lemmas.List.Concat.{length-flat_map}
 use Rattle.keys.specs.Kinds.{Field}
 use Rattle.nodes.specs.declared.entry.Entry.{Entry}
 use Rattle.nodes.specs.Layout.{LeafEntry}
+use Rattle.nodes.specs.Few.{items}
 use Rattle.nodes.specs.Meanings.{entry_of}
 use Rattle.book.specs.Looking.{Listed}
 use Rattle.tree.specs.Trees.{RecordAt, EntryAt}
@@ -19,7 +20,7 @@ use Rattle.listing.proofs.Putting.{rows_append, length_rows, put_on, none_leaves
 pub chain_there : (x : Entry) (entry : EntryAt) → entry_of x ≡ entry_in entry → (pages : Pages) → ReadableChain pages (head_of entry.records) entry.records → ReadableChain pages x.head entry.records
 chain_there x entry is pages readable = subst (λ (n : ℕ). ReadableChain pages n entry.records) (sym (ap (λ (e : LeafEntry). e.head) is)) readable
 
-module _ (x : Entry) (entry : EntryAt) (is : entry_of x ≡ entry_in entry) (inline : List ℕ) (inline_is : inline ≡ x.inline.items) (at skip : ℕ) (buffer mid : List ℕ) (inline_put : mid ≡ filled skip at (rows_of x.key inline) buffer) where
+module _ (x : Entry) (entry : EntryAt) (is : entry_of x ≡ entry_in entry) (inline : List ℕ) (inline_is : inline ≡ items x.inline) (at skip : ℕ) (buffer mid : List ℕ) (inline_put : mid ≡ filled skip at (rows_of x.key inline) buffer) where
   same_key : x.key ≡ entry.key
   same_key = ap (λ (e : LeafEntry). e.key) is
 

@@ -4,6 +4,7 @@ use Rattle.refusals.specs.declared.Refusal.{Refusal}
 use Rattle.page_store.specs.Meanings.{Meaning}
 use Rattle.nodes.specs.declared.records.Record.{Record}
 use Rattle.nodes.specs.Layout.{RecordPage, record_image, RecordFits}
+use Rattle.nodes.specs.Few.{items}
 use Rattle.nodes.specs.Meanings.{record_of}
 use Rattle.tree.specs.Trees.{RecordAt}
 use Rattle.tree.specs.Valid.{head_of}
@@ -42,7 +43,7 @@ module _ (m : Meaning) {records : List RecordAt} {place : ℕ} {list : List ℕ}
       go (first ∷ rest) chain (Ok x) read e = cc
       go (first ∷ rest) chain (Err other) read e = read_never_refused record_image RecordFits record_of m page (record_in first rest) chain.2 chain.3 other read
 
-  pub left_more : (1 ≤ page) → {x : Record} {r : Result Record Refusal} → NodeRead record_image RecordFits record_of m page r → r ≡ Ok x → {postings : List ℕ} → postings ≡ x.postings.items → (end' : ChainEnd) → end'.records ≡ end.records + 1 → end'.place ≡ end.place + length postings
+  pub left_more : (1 ≤ page) → {x : Record} {r : Result Record Refusal} → NodeRead record_image RecordFits record_of m page r → r ≡ Ok x → {postings : List ℕ} → postings ≡ items x.postings → (end' : ChainEnd) → end'.records ≡ end.records + 1 → end'.place ≡ end.place + length postings
       → {after : List ℕ} → after ≡ poured end.place postings now → Left m records place list count page end now → Left m records place list count x.next end' after
   left_more some {x = x} {r = r} read e {postings = postings} same_postings end' more further {after = after} wrote left = go left.left left.is_chained left.counted left.placed left.written r read e
     where

@@ -6,6 +6,7 @@ use Rattle.std.proofs.lemmas.List.{length-map, length-take}
 use Rattle.keys.specs.Kinds.{Kind, Field}
 use Rattle.nodes.specs.declared.entry.Entry.{Entry as EntryRead}
 use Rattle.nodes.specs.Layout.{LeafEntry}
+use Rattle.nodes.specs.Few.{items}
 use Rattle.nodes.specs.Meanings.{entry_of}
 use Rattle.book.specs.Books.{value_at, postings_of}
 use Rattle.book.specs.Entries.{Entry, Entries, paged, postings_in, book_of}
@@ -23,7 +24,7 @@ use Rattle.lookups.specs.Showing.{EntryShown}
 use Rattle.lookups.proofs.Pourings.{poured_append, poured_front, length_poured}
 
 -- an entry: its inline postings are poured first, then its chain
-pub entry_shown : (entry : EntryRead) (found : EntryAt) (reads : ℕ) (list inlined after : List ℕ) (end : ChainEnd) (inline : List ℕ) → inline ≡ entry.inline.items → entry_of entry ≡ entry_in found
+pub entry_shown : (entry : EntryRead) (found : EntryAt) (reads : ℕ) (list inlined after : List ℕ) (end : ChainEnd) (inline : List ℕ) → inline ≡ items entry.inline → entry_of entry ≡ entry_in found
     → inlined ≡ poured 0 inline list → ChainPoured (length inline) found.records inlined end after
     → (looked : Looked) → looked.total ≡ end.place → looked.written ≡ min end.place (length after) → looked.reads ≡ reads + end.records → EntryShown found reads list looked after
 entry_shown entry found reads list inlined after end inline inline_is is first then looked total written count =

@@ -12,8 +12,8 @@ ghost use Rattle.tree.specs.Valid.{next_free, SpellFree, Valid};
 ghost use Rattle.calls.specs.Making.{MakesEmptyTree};
 ghost use Rattle.making.specs.EmptyTrees.{free_pages, empty_header, empty_leaf};
 
-use arrayvec::ArrayVec;
 use keys::KeyKind;
+use nodes::few::Few;
 use nodes::free::Free;
 use nodes::header::Header;
 use nodes::leaf::Leaf;
@@ -71,7 +71,7 @@ fn root_page() -> [u8; PAGE_SIZE]
 {
     let leaf = Leaf {
         next: 0,
-        entries: ArrayVec::new(),
+        entries: Few::new(),
     };
     leaf.encode()
 }

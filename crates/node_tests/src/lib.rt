@@ -3,8 +3,8 @@
 
 #[cfg(test)]
 mod tests {
-    use arrayvec::ArrayVec;
     use nodes::entry::Entry;
+    use nodes::few::Few;
     use nodes::free::Free;
     use nodes::header::Header;
     use nodes::inner::InnerNode;
@@ -14,7 +14,6 @@ mod tests {
     use nodes::row::ChildRow;
     use nodes::sizes::PAGE_SIZE;
     use nodes::sort::PageSort;
-    use std::array;
     use std::test::Fail;
 
     fn header() -> Header {
@@ -30,7 +29,7 @@ mod tests {
     }
 
     fn entry() -> Entry {
-        let mut inline = ArrayVec::from([9, 7, 5]);
+        let mut inline = Few::from([9, 7, 5]);
         inline.truncate(2);
         Entry {
             key: [b'r'; 24],
@@ -41,7 +40,7 @@ mod tests {
     }
 
     fn leaf() -> Leaf {
-        let mut entries = ArrayVec::from(array::from_fn(|_| entry()));
+        let mut entries = Few::from([entry(); 8]);
         entries.truncate(5);
         Leaf { next: 4, entries }
     }
@@ -51,13 +50,13 @@ mod tests {
             key: [b'k'; 24],
             child: 8,
         };
-        let mut rows = ArrayVec::from([row; 15]);
+        let mut rows = Few::from([row; 15]);
         rows.truncate(7);
         InnerNode { first: 3, rows }
     }
 
     fn record() -> Record {
-        let mut postings = ArrayVec::from([7; 60]);
+        let mut postings = Few::from([7; 60]);
         postings.truncate(10);
         Record { next: 0, postings }
     }
@@ -132,6 +131,40 @@ mod tests {
         assert!(rt; Free::decode(&free.encode()[0..511]).is_none(), "511 bytes");
         let read = Free::decode(&free.encode()).ok_or("no free page")?;
         assert!(rt; read.next == 12);
+        Ok(())
+    }
+
+    // Each argument is taken by value.
+    fn are_both<P: Copy + PartialEq>(one: P, other: P, value: P) -> bool {
+        one == value && other == value
+    }
+
+    #[test]
+    fn typed_pages_are_copied(rt: HostRuntime) -> Result<(), Fail> {
+        let (entry, leaf, inner, record) = (entry(), leaf(), inner(), record());
+        assert!(rt; are_both(entry, entry, entry.clone()?));
+        assert!(rt; are_both(leaf, leaf, leaf.clone()?));
+        assert!(rt; are_both(inner, inner, inner.clone()?));
+        assert!(rt; are_both(record, record, record.clone()?));
+        Ok(())
+    }
+
+    #[test]
+    fn few_values_come_and_go(rt: HostRuntime) -> Result<(), Fail> {
+        let mut few: Few<u64, 3> = Few::default();
+        assert!(rt; few.is_empty() && !few.is_full());
+        few.push(7);
+        few.insert(0, 9);
+        few.insert(1, 8);
+        assert!(rt; few.is_full() && few == Few::from([9, 8, 7]));
+        few.set(2, 5);
+        assert_eq!(rt; few.remove(0), 9);
+        assert!(rt; few[0] == 8 && few[1] == 5 && few.len() == 2);
+        let printed = format!(in rt.alloc(); "{few:?}")?;
+        assert_eq!(rt; printed.as_str(), "[8, 5]");
+        few.truncate(1);
+        few.truncate(3);
+        assert_eq!(rt; few.as_slice(), [8].as_slice());
         Ok(())
     }
 

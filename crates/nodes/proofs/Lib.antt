@@ -5,3 +5,4 @@ pub mod Writing
 pub mod Sorting
 pub mod Reading
 pub mod Pieces
+pub mod Placing

@@ -1,5 +1,6 @@
 pub mod Sorts
 pub mod Layout
+pub mod Few
 pub mod Readings
 pub mod Meanings
 pub mod Codec

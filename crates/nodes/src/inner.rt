@@ -1,16 +1,16 @@
+use crate::few::Few;
 use crate::row::ChildRow;
 use crate::sizes::MOST_ROWS;
-use arrayvec::ArrayVec;
 use std::alloc::AllocError;
 
 /// An inner node: the child of row 0, and the rows after it.
-#[derive(Drop, PartialEq, Eq, Debug)]
+#[derive(Copy, PartialEq, Eq, Debug)]
 pub struct InnerNode {
     pub first: u32,
-    pub rows: ArrayVec<ChildRow, MOST_ROWS>,
+    pub rows: Few<ChildRow, MOST_ROWS>,
 }
 
-// By hand: a derived clone tells of its items one by one, and not that the whole is the same.
+// By hand, to say that a clone is the node itself and never fails.
 impl Clone for InnerNode {
     ghost use Rattle.std.specs.Prelude.{◌≡◌};
 
@@ -19,9 +19,6 @@ impl Clone for InnerNode {
     ghost is_infallible = { λ _. Unit {0} };
 
     fn clone(&self) -> Result<InnerNode, AllocError> {
-        Ok(InnerNode {
-            first: self.first,
-            rows: self.rows.clone()?,
-        })
+        Ok(*self)
     }
 }

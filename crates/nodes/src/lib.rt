@@ -3,6 +3,7 @@
 
 mod codec;
 pub mod entry;
+pub mod few;
 pub mod free;
 pub mod header;
 pub mod inner;

@@ -1,12 +1,13 @@
 ghost use Rattle.std.specs.Prelude.{◌≡◌, ℕ, ◌+◌, ◌*◌, ◌≤◌, List, map, length};
 ghost use Rattle.std.specs.List.{flat_map, AllByRecursion};
 ghost use Rattle.numbers.specs.BigEndian.{written};
+ghost use Rattle.nodes.specs.Few.{items};
 
+use crate::few::Few;
 use crate::places::put;
-use arrayvec::ArrayVec;
 
 /// What pages hold in pieces of one width, one after another.
-pub(crate) trait Piece<const WIDTH: usize>: Default + Drop {
+pub(crate) trait Piece<const WIDTH: usize>: Copy + Default {
     // What such a piece says, and its bytes where it fits.
     ghost Value: { Type 0 };
 
@@ -34,11 +35,11 @@ pub(crate) trait Piece<const WIDTH: usize>: Default + Drop {
 /// What stands in so many pieces.
 pub(crate) fn read_pieces<P: Piece<WIDTH>, const WIDTH: usize, const MOST: usize>(
     pieces: &[[u8; WIDTH]],
-) -> ArrayVec<P, MOST>
+) -> Few<P, MOST>
     requires are_few { length pieces.now ≤ MOST }
-    ensures are_what_stands_there { map P.meaning result.items ≡ map P.reading pieces.now }
+    ensures are_what_stands_there { map P.meaning (items result) ≡ map P.reading pieces.now }
 {
-    let mut values = ArrayVec::new();
+    let mut values = Few::new();
     for piece in pieces {
         values.push(P::read(piece));
     }

@@ -3,6 +3,7 @@ use Rattle.std.proofs.lemmas.List.{length-map}
 use Rattle.std.proofs.lemmas.Option.{cond_some}
 use Rattle.std.proofs.lemmas.Result.{IfOk-at_ok}
 use Rattle.keys.specs.Kinds.{Field, below}
+use Rattle.nodes.specs.Few.{items}
 use Rattle.nodes.specs.Meanings.{entry_of}
 use Rattle.listing.specs.Walks.{most_in_entry}
 use Rattle.listing.proofs.InRange.{unchecked}
@@ -22,7 +23,7 @@ returns-in_default-clause-walks_the_leaf g c =
     let range = c.args.range.now in
     let i = c.loop-entry.entry-index in
     let x = c.entry-item.result in
-    let there = meant_there entry_of c.as_slice-entry-items.result.now leaf.entries.items i x c.as_slice-entry-items.ensures.value c.loop-entry-test.true c.entry-item.is in
+    let there = meant_there entry_of c.as_slice-entry-items.result.now (items leaf.entries) i x c.as_slice-entry-items.ensures.value c.loop-entry-test.true c.entry-item.is in
     record {
       passes_it = λ node is readable rising.
           absurd (unchecked (g.K.KeyKind.kind.lawful x.key) _ c.in_default.ensures.is_the_field_if_lawful
@@ -40,7 +41,7 @@ loop-entry-preserved-then-starts_after g c =
     let so_far = c.loop-entry.invariant in
     let few = so_far.few in
     let most = c.as_slice-entry-items.ensures.fits in
-    let there = meant_there entry_of c.as_slice-entry-items.result.now leaf.entries.items i x c.as_slice-entry-items.ensures.value c.loop-entry-test.true c.entry-item.is in
+    let there = meant_there entry_of c.as_slice-entry-items.result.now (items leaf.entries) i x c.as_slice-entry-items.ensures.value c.loop-entry-test.true c.entry-item.is in
     let same = ap (λ r. r.now) (cond_some (kind.lawful x.key) _ c.in-Some.key.field (sym c.in-Some.ensures.is_the_field_if_lawful)).1 in
     record {
       same_meaning = so_far.same_meaning;
@@ -58,7 +59,7 @@ returns-then-ends_before-clause-walks_the_leaf g c =
     let range = c.args.range.now in
     let i = c.loop-entry.entry-index in
     let x = c.entry-item.result in
-    let there = meant_there entry_of c.as_slice-entry-items.result.now leaf.entries.items i x c.as_slice-entry-items.ensures.value c.loop-entry-test.true c.entry-item.is in
+    let there = meant_there entry_of c.as_slice-entry-items.result.now (items leaf.entries) i x c.as_slice-entry-items.ensures.value c.loop-entry-test.true c.entry-item.is in
     let same = ap (λ r. r.now) (cond_some (kind.lawful x.key) _ c.in-Some.key.field (sym c.in-Some.ensures.is_the_field_if_lawful)).1 in
     record {
       passes_it = λ node is readable rising.
@@ -77,7 +78,7 @@ returns-in_err-next-clause-walks_the_leaf g c =
     let i = c.loop-entry.entry-index in
     let x = c.entry-item.result in
     let so_far = c.loop-entry.invariant in
-    let there = meant_there entry_of c.as_slice-entry-items.result.now leaf.entries.items i x c.as_slice-entry-items.ensures.value c.loop-entry-test.true c.entry-item.is in
+    let there = meant_there entry_of c.as_slice-entry-items.result.now (items leaf.entries) i x c.as_slice-entry-items.ensures.value c.loop-entry-test.true c.entry-item.is in
     let walked = entry_told m (g.S.PageStore.meaning c.loop-entry.store) window here so_far.same_meaning so_far.stays c.list_entry.ensures.walks_the_entry in
     record {
       passes_it = λ node is readable rising.
@@ -99,7 +100,7 @@ loop-entry-preserved g c =
     let few = so_far.few in
     let most = c.as_slice-entry-items.ensures.fits in
     let more = IfOk-at_ok (λ next. next ≤ c.loop-entry.next + most_in_entry) c.in_ok-next.was c.list_entry.ensures.counts_few in
-    let there = meant_there entry_of c.as_slice-entry-items.result.now leaf.entries.items i x c.as_slice-entry-items.ensures.value c.loop-entry-test.true c.entry-item.is in
+    let there = meant_there entry_of c.as_slice-entry-items.result.now (items leaf.entries) i x c.as_slice-entry-items.ensures.value c.loop-entry-test.true c.entry-item.is in
     let same = ap (λ r. r.now) (cond_some (kind.lawful x.key) _ c.in-Some.key.field (sym c.in-Some.ensures.is_the_field_if_lawful)).1 in
     let walked = entry_told m (g.S.PageStore.meaning c.loop-entry.store) window here so_far.same_meaning so_far.stays c.list_entry.ensures.walks_the_entry in
     record {
@@ -120,5 +121,5 @@ returns-clause-walks_the_leaf g c =
     record {
       passes_it = λ node is readable rising.
           leaf_ends c.loop-entry.invariant.so_far
-          (record { is_it = is; readable = readable; rising = rising; second_lawful = range.second.is_lawful }) (let same = ap length c.as_slice-entry-items.ensures.value in omega (arith, length-map leaf.entries.items entry_of));
+          (record { is_it = is; readable = readable; rising = rising; second_lawful = range.second.is_lawful }) (let same = ap length c.as_slice-entry-items.ensures.value in omega (arith, length-map (items leaf.entries) entry_of));
     }

@@ -1,6 +1,7 @@
 use Rattle.std.proofs.Common.{map, drop, sym, ap, ◌∙◌, arith}
 use Rattle.std.proofs.lemmas.List.{take_all, length-drop, map-id}
 use Rattle.numbers.specs.BigEndian.{number_of}
+use Rattle.nodes.specs.Few.{items}
 use Rattle.nodes.proofs.Cutting.{first_pieces}
 use Rattle.nodes.proofs.Reading.{entry_read}
 use Rattle.nodes.proofs.codec.entry.EntryPieceENTRY_SIZE.read.Goals as goal
@@ -8,7 +9,7 @@ use Rattle.nodes.proofs.codec.entry.EntryPieceENTRY_SIZE.read.Goals as goal
 pub returns : goal.returns
 returns c =
     let piece = c.args.piece.now in
-    let ps = c.read_pieces.result.items in
+    let ps = items c.read_pieces.result in
     let l = length-drop 28 c.args.piece.now in
     let many = c.told-piece in
     let cut = first_pieces 8 _ c.min-count.result _ (drop 28 piece) c.as_chunks.result.0.now c.as_chunks.ensures.front (take_all 32 (drop 28 piece) (omega arith)) (omega arith) in

@@ -1,5 +1,6 @@
 use Rattle.std.proofs.Common.{map, drop, ap, ◌∙◌, arith}
 use Rattle.std.proofs.lemmas.List.{take_all, length-drop}
+use Rattle.nodes.specs.Few.{items}
 use Rattle.nodes.specs.Layout.{inner_image, InnerFits}
 use Rattle.nodes.specs.Readings.{inner_in, row_in}
 use Rattle.nodes.specs.Meanings.{row_of}
@@ -11,7 +12,7 @@ use Rattle.nodes.proofs.codec.inner.InnerNodePage.read.Goals as goal
 pub returns : goal.returns
 returns c =
     let page = c.args.page.now in
-    let xs = map row_of c.read_pieces.result.items in
+    let xs = map row_of (items c.read_pieces.result) in
     let l = length-drop 60 c.args.page.now in
     let many = c.told-page in
     let cut = first_pieces 28 _ c.min-count.result _ (drop 60 page) c.as_chunks.result.0.now c.as_chunks.ensures.front (take_all 452 (drop 60 page) (omega arith)) (omega arith) in

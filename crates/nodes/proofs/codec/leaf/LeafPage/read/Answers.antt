@@ -1,5 +1,6 @@
 use Rattle.std.proofs.Common.{map, drop, ap, ◌∙◌, arith}
 use Rattle.std.proofs.lemmas.List.{take_all, length-drop}
+use Rattle.nodes.specs.Few.{items}
 use Rattle.nodes.specs.Layout.{leaf_image, LeafFits}
 use Rattle.nodes.specs.Readings.{leaf_in, entry_in}
 use Rattle.nodes.specs.Meanings.{entry_of}
@@ -11,7 +12,7 @@ use Rattle.nodes.proofs.codec.leaf.LeafPage.read.Goals as goal
 pub returns : goal.returns
 returns c =
     let page = c.args.page.now in
-    let xs = map entry_of c.read_pieces.result.items in
+    let xs = map entry_of (items c.read_pieces.result) in
     let l = length-drop 32 c.args.page.now in
     let many = c.told-page in
     let cut = first_pieces 60 _ c.min-count.result _ (drop 32 page) c.as_chunks.result.0.now c.as_chunks.ensures.front (take_all 480 (drop 32 page) (omega arith)) (omega arith) in

@@ -1,6 +1,7 @@
 use Rattle.std.proofs.Common.{map, drop, sym, ap, ◌∙◌, arith}
 use Rattle.std.proofs.lemmas.List.{take_all, length-drop, map-id}
 use Rattle.numbers.specs.BigEndian.{number_of}
+use Rattle.nodes.specs.Few.{items}
 use Rattle.nodes.specs.Layout.{record_image, RecordFits}
 use Rattle.nodes.specs.Readings.{record_in}
 use Rattle.nodes.proofs.Spelling.{made_record, record_back, read_back}
@@ -11,7 +12,7 @@ use Rattle.nodes.proofs.codec.records.RecordPage.read.Goals as goal
 pub returns : goal.returns
 returns c =
     let page = c.args.page.now in
-    let ps = c.read_pieces.result.items in
+    let ps = items c.read_pieces.result in
     let l = length-drop 32 c.args.page.now in
     let many = c.told-page in
     let cut = first_pieces 8 _ c.clamp-count.result _ (drop 32 page) c.as_chunks.result.0.now c.as_chunks.ensures.front (take_all 480 (drop 32 page) (omega arith)) (omega arith) in
