@@ -1,16 +1,18 @@
 -- The rows of a batch, one by one, and the merge that they make.
-use Rattle.std.proofs.Common.{◌≡◌, ℕ, suc, ◌+◌, ◌≤◌, Bool, true, false, cond, List, [], ◌∷◌, ◌++◌, map, length, filter, Some, None, Option, sym, refl, ap, ◌∙◌, subst, arith}
-use Rattle.std.proofs.lemmas.List.{length-append, length-map}
+use Rattle.std.proofs.Common.{◌≡◌, ℕ, zero, suc, ◌+◌, ◌-◌, ◌<◌, ◌≤◌, Bool, true, false, cond, List, [], ◌∷◌, ◌++◌, map, length, get_or, take, filter, Some, None, Option, sym, refl, ap, ◌∙◌, subst, arith}
+use Rattle.std.specs.List.{slice_get}
+use Rattle.std.proofs.lemmas.List.{append-nil, length-append, length-map, get_or_append_left, get_or-append_right, get_or-map}
 use Rattle.std.proofs.lemmas.List.Elements.{filter-append}
 use Rattle.std.proofs.ByRecursion.{All-weaker}
 use Rattle.refusals.specs.Refusals.{Answer, Accepted, Refused, and_then, is_accepted}
 use Rattle.numbers.specs.BigEndian.{Bytes}
 use Rattle.keys.specs.Kinds.{Kind, Field}
+use Rattle.batches.specs.declared.line.Sign.TheVariants.{Posting}
 use Rattle.batches.specs.declared.line.Line.{Line}
 use Rattle.batches.specs.declared.rows.OpenRow.{OpenRow}
 use Rattle.batches.specs.Layout.{Row, Rising, RowFits, lines_of}
 use Rattle.batches.specs.Reading.{rows_in, cell_of, line_of}
-use Rattle.batches.specs.Rows.{lines_read}
+use Rattle.batches.specs.Rows.{lines_read, lines_before, no_row}
 use Rattle.batches.specs.Opening.{open_answer, opens}
 use Rattle.batches.specs.KeyCheck.{kind_and_keys_answer}
 use Rattle.batches.proofs.Steps.{few_lines}
@@ -23,7 +25,7 @@ use Rattle.book.specs.Entries.{Entries, paged}
 use Rattle.book.proofs.Bookings.{KeysRise, accepted_keys}
 use Rattle.book.proofs.Paged.{paged_follows}
 use Rattle.book.proofs.Merges.{checked_before}
-use Rattle.plain_book.specs.Lines.{LawfulKeys}
+use Rattle.plain_book.specs.Lines.{LawfulKeys, no_booking}
 
 -- lines and then others
 answers-++ : (kind : Kind) (at : ℕ) (bs cs : List Booking) (list : Entries) → lines_answer kind paged at (bs ++ cs) list ≡ and_then (lines_answer kind paged at bs list) (lines_answer kind paged (at + length bs) cs list)
@@ -115,3 +117,44 @@ open_rows_rise bytes real opened =
 
 pub lines_few : (bytes : List ℕ) → opens bytes ≡ true → length (lines_of (rows_in bytes)) ≤ 1024
 lines_few bytes opened = omega (arith, lines_counted bytes opened, few_lines bytes (counts bytes (is_accepted_alone (open_answer bytes) opened)))
+
+-- a line by its number, in the row that has it
+abbrev no_line : Line
+no_line = record { sign = Posting; number = 0 }
+
+pub nth_some : {X : Type 0} (xs : List X) (j : ℕ) (x d : X) → Some x ≡ slice_get xs j → (j < length xs) × (get_or xs j d ≡ x)
+nth_some [] j x d e = let z : ◌≡◌ {A = ℕ} 0 1 = cc in absurd (omega arith)
+nth_some (y ∷ ys) zero x d e = (omega arith, cc)
+nth_some (y ∷ ys) (suc j) x d e = let ih = nth_some ys j x d e in (omega (arith, ih.0), ih.1)
+
+abbrev under : Field → Line → Booking
+under key line = record { key = key; sign = line.sign; number = line.number }
+
+pub under_length : (rows : List Row) → length (lines_under rows) ≡ length (lines_of rows)
+under_length [] = refl
+under_length (row ∷ rows) =
+    length-append (bookings_of row) (lines_under rows)
+    ∙ omega (arith, under_length rows, length-append row.lines (lines_of rows), length-map row.lines (under row.key))
+
+-- a line in the row that has it
+line_in_row : (rows : List Row) (i j : ℕ) → i < length rows → lines_before rows i ≤ j → j < lines_before rows (suc i) → get_or (lines_under rows) j no_booking ≡ under (get_or rows i no_row).key (get_or (lines_of rows) j no_line)
+line_in_row [] i j h low high = absurd (omega arith)
+line_in_row (row ∷ rows) zero j h low high =
+    let here : j < length row.lines = omega (arith, ap length (append-nil row.lines)) in
+    get_or_append_left (bookings_of row) (lines_under rows) no_booking j (omega (arith, length-map row.lines (under row.key)))
+    ∙ (get_or-map (under row.key) row.lines j no_line no_booking here ∙ ap (under row.key) (sym (get_or_append_left row.lines (lines_of rows) no_line j here)))
+line_in_row (row ∷ rows) (suc i) j h low high =
+    let n = length row.lines in
+    let first = length-append row.lines (lines_of (take i rows)) in
+    let next = length-append row.lines (lines_of (take (suc i) rows)) in
+    get_or-append_right (bookings_of row) (lines_under rows) n j no_booking (length-map row.lines (under row.key)) (omega arith)
+    ∙ (line_in_row rows i (j - n) (omega arith) (omega arith) (omega arith) ∙ ap (under (get_or rows i no_row).key) (sym (get_or-append_right row.lines (lines_of rows) n j no_line refl (omega arith))))
+
+pub booked_line : (rows : List Row) (i j : ℕ) (key : Field) (line : Line) → i < length rows → lines_before rows i ≤ j → j < lines_before rows (i + 1) → key ≡ (get_or rows i no_row).key → Some line ≡ slice_get (lines_of rows) j
+    → (j < length (lines_under rows)) × (get_or (lines_under rows) j no_booking ≡ record { key = key; sign = line.sign; number = line.number })
+booked_line rows i j key line h low high k e =
+    let one : i + 1 ≡ suc i = omega arith in
+    let there = nth_some (lines_of rows) j line no_line e in (
+      omega (arith, there.0, under_length rows),
+      line_in_row rows i j h low (subst (λ (m : ℕ). j < lines_before rows m) one high) ∙ (ap (λ (f : Field). under f (get_or (lines_of rows) j no_line)) (sym k) ∙ ap (under key) there.1),
+    )
