@@ -21,10 +21,10 @@ mod range;
 mod rows;
 
 /// Writes a row for each posting of the keys from the first to the second, both included, past the rows to skip, as many as fit whole into the buffer.
-pub fn list<'k, S: PageStore, K: KeyKind>(
+pub fn list<S: PageStore, K: KeyKind>(
     store: &mut S,
-    first: &'k [u8],
-    second: &'k [u8],
+    first: &[u8],
+    second: &[u8],
     skip: u64,
     buffer: &mut [u8],
 ) -> Result<RowsListed, Refusal>

@@ -5,14 +5,14 @@ ghost use Rattle.keys.specs.Kinds.{below};
 
 use keys::{KeyKind, LawfulKey};
 
-/// The keys from the first to the second; none where the first is above the second.
+/// The keys from the first to the second; none where the first is above the second. Each key has a lifetime of its own, as the call's two have.
 #[derive(Drop)]
-pub(crate) struct KeyRange<'k, K: KeyKind> {
-    pub(crate) first: LawfulKey<'k, K>,
-    pub(crate) second: LawfulKey<'k, K>,
+pub(crate) struct KeyRange<'a, 'b, K: KeyKind> {
+    pub(crate) first: LawfulKey<'a, K>,
+    pub(crate) second: LawfulKey<'b, K>,
 }
 
-impl<K: KeyKind> KeyRange<'_, K> {
+impl<K: KeyKind> KeyRange<'_, '_, K> {
     /// Whether the first key lies above the second.
     pub(crate) fn goes_back(&self) -> bool
         ensures is_above { result ≡ below K.kind self.now.second.field.now self.now.first.field.now }
