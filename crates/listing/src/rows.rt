@@ -67,6 +67,7 @@ impl Window<'_> {
     }
 
     /// The rows of a key, of which the first is row `at` of the listing.
+    #[tactic(auto, using(crate::proofs::Filling::put_more, std::proofs::lemmas::List::take_all))]
     pub(crate) fn put_rows(&mut self, key: &[u8; KEY_SIZE], postings: &[u64], at: u64)
         requires rows_can_be_counted { at + length postings.now < 2 ^ 63 }
         ensures are_put { self.new ≡ with_bytes self.old (filled self.old.skip at (rows_of key.now postings.now) self.old.buffer.now) }
