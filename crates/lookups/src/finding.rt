@@ -1,6 +1,6 @@
 //! The entry of a key in its leaf, and what it shows.
 
-ghost use Rattle.std.specs.Prelude.{◌≡◌, ◌≤◌, length, MatchResult};
+ghost use Rattle.std.specs.Prelude.{◌≡◌, ◌≤◌, map, length, MatchResult};
 ghost use Rattle.std.specs.Option.{option_map};
 ghost use Rattle.nodes.specs.Meanings.{entry_of, leaf_of};
 ghost use Rattle.book.specs.Entries.{Entries};
@@ -21,14 +21,18 @@ use page_store::PageStore;
 use refusals::Refusal;
 use searching::Descent;
 
+// The first of some entries that has a key, if one has it.
+fn entry_among<'a>(entries: &'a [Entry], key: &[u8]) -> Option<&'a Entry>
+    ensures has_the_key { FoundEntry key.now (map entry_of entries.now) (option_map (λ entry. entry_of entry.now) result) }
+{
+    entries.iter().find(|entry| entry.key.as_slice() == key)
+}
+
 // The entry of a leaf that has a key, if one has it.
 fn entry_of<'a>(leaf: &'a Leaf, key: &[u8]) -> Option<&'a Entry>
     ensures has_the_key { FoundEntry key.now (leaf_of leaf.now).entries (option_map (λ entry. entry_of entry.now) result) }
 {
-    leaf.entries
-        .as_slice()
-        .iter()
-        .find(|entry| entry.key.as_slice() == key)
+    entry_among(leaf.entries.as_slice(), key)
 }
 
 // Writes the postings of an entry into the list; `reads` pages were read to find it.
