@@ -75,10 +75,10 @@ impl<S: PageStore> Cache<S> {
         ensures holds_it_there { held_in self.new ≡ slice_set (held_in self.old) place held }
         ensures keeps_the_store_below { self.new.below ≡ self.old.below }
     {
-        self.held[place] = Entry {
-            held,
-            mark: Mark::Dirty,
-        };
+        // By its parts: an entry made first would be copied once more.
+        let entry = &mut self.held[place];
+        entry.held = held;
+        entry.mark = Mark::Dirty;
     }
 
     // A page into a free place.
