@@ -33,6 +33,7 @@ fn bring_down<S: PageStore>(store: &mut S, entry: &Entry)
 
 impl<S: PageStore> Cache<S> {
     /// A cache over this store that holds nothing yet.
+    #[tactic(auto, using(crate::proofs::Holdings::same_as_itself))]
     pub fn over(below: S) -> Cache<S>
         ensures lies_over_it { result.below ≡ below }
         ensures holds_nothing { held_in result ≡ [] }
@@ -89,6 +90,17 @@ impl<S: PageStore> Cache<S> {
         ensures keeps_the_store_below { self.new.below ≡ self.old.below }
     {
         self.held.push(Entry { held, mark });
+    }
+
+    // The store below means by itself what the cache means, after it.
+    fn bring_all_down(&mut self)
+        ensures keeps_the_meaning { cache_meaning S.meaning self.new ≡ cache_meaning S.meaning self.old }
+        ensures leaves_the_store_below_the_same { S.meaning self.new.below ≡ cache_meaning S.meaning self.old }
+    {
+        for entry in self.held.iter_mut() {
+            bring_down(&mut self.below, entry);
+            entry.mark = Mark::Clean;
+        }
     }
 
     // A page that is not held: it takes a free place or, in turn, that of another, which is brought down first.
@@ -155,15 +167,13 @@ impl<S: PageStore> PageStore for Cache<S> {
         Ok(())
     }
 
+    #[tactic(auto, using(crate::proofs::Holdings::same_as_itself))]
     fn settle(&mut self)
         ensures keeps_the_meaning { cache_meaning S.meaning self.new ≡ cache_meaning S.meaning self.old }
         ensures is_settled { cache_settled S.meaning S.settled self.new ≡ true }
         ensures leaves_the_store_below_the_same { S.meaning self.new.below ≡ cache_meaning S.meaning self.old }
     {
-        for entry in self.held.iter_mut() {
-            bring_down(&mut self.below, entry);
-            entry.mark = Mark::Clean;
-        }
+        self.bring_all_down();
         self.below.settle();
     }
 }

@@ -1,6 +1,6 @@
 use Rattle.std.proofs.Common.{◌≡◌, take}
 use Rattle.cache.specs.Holding.{pages_of, put_in}
-use Rattle.cache.proofs.calls.CachePageStore.settle.Given as goal
+use Rattle.cache.proofs.Cache.bring_all_down.Given as goal
 
 -- the store below is the second part of what is left of the cache while its places are lent
 abbrev pub invariant-loop-entry : goal.invariant-loop-entry

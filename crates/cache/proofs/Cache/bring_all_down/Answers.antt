@@ -1,13 +1,12 @@
-use Rattle.std.proofs.Common.{◌≡◌, ◌<◌, ◌≤◌, true, List, length, get_or, sym, ap, ◌∙◌, arith}
-use Rattle.std.proofs.lemmas.List.{length-map, get_or-map, take_all}
-use Rattle.std.proofs.lemmas.Bool.{and_from}
+use Rattle.std.proofs.Common.{◌≡◌, ◌<◌, true, List, length, get_or, sym, ap, ◌∙◌, arith}
+use Rattle.std.proofs.lemmas.List.{length-map, get_or-map}
 use Rattle.page_store.specs.Meanings.{with_page}
 use Rattle.cache.specs.declared.held.Held.{Held}
 use Rattle.cache.specs.declared.held.Entry.{Entry}
 use Rattle.cache.specs.declared.held.Mark.TheVariants.{Clean}
 use Rattle.cache.specs.Holding.{pages_of, put_in, all_apart}
-use Rattle.cache.proofs.Holdings.{pages_marked, pages_back, backed, one_more_down, same_as_itself}
-use Rattle.cache.proofs.calls.CachePageStore.settle.Goals as goal
+use Rattle.cache.proofs.Holdings.{pages_marked, backed, one_more_down}
+use Rattle.cache.proofs.Cache.bring_all_down.Goals as goal
 
 pub loop-entry-preserved : goal.loop-entry-preserved
 loop-entry-preserved g c =
@@ -31,22 +30,3 @@ loop-entry-preserved g c =
       ap (put_in hs) down ∙ backed hs here i d apart there ∙ inv.1,
       down ∙ ap (λ x. with_page x (get_or hs i d).page (get_or hs i d).bytes) inv.2 ∙ one_more_down hs m i d apart there,
     )
-
-pub returns-clause-is_settled : goal.returns-clause-is_settled
-returns-clause-is_settled g c =
-    let self = c.args.self.now in
-    let means = g.S.PageStore.meaning in
-    let m = means self.below in
-    let k = means c.settle.new.self in
-    let lent = c.deref_mut-entry-items.result.now in
-    let hs = pages_of lent in
-    let es = c.loop-entry.entry-items in
-    let i = c.loop-entry.entry-index in
-    let inv = c.loop-entry.invariant in
-    let long : length es ≡ length self.held.items = c.loop-entry.auto.entry-items ∙ ap length c.deref_mut-entry-items.ensures.value in
-    let all : length hs ≤ i = omega (arith, length-map lent (λ (entry : Entry). entry.held)) in
-    let keeps = c.settle.ensures.keeps_the_meaning in
-    let held = pages_back self.held.items es long ∙ inv.0 in
-    let down = keeps ∙ inv.2 ∙ ap (λ x. put_in x m) (take_all i hs all) in
-    let same = ap (λ x. put_in x k) held ∙ ap (put_in hs) keeps ∙ inv.1 ∙ sym down in
-    and_from _ _ (same_as_itself _ _ same) c.settle.ensures.is_settled
