@@ -1,5 +1,5 @@
 -- Numbers by their bytes. Assumes nothing.
-use Rattle.std.proofs.Common.{◌≡◌, ℕ, zero, suc, ◌+◌, ◌-◌, ◌<◌, ◌≤◌, min, List, [], ◌∷◌, length, take, drop, get_or, sym, refl, ap, ◌∙◌, ⊎_elim, add-zero, arith, le-leb, nat_le, cond, true, false, length-take, length-drop}
+use Rattle.std.proofs.Common.{◌≡◌, ℕ, zero, suc, ◌+◌, ◌-◌, ◌*◌, ◌<◌, ◌≤◌, min, List, [], ◌∷◌, length, take, drop, get_or, sym, refl, ap, ◌∙◌, ⊎_elim, add-zero, arith, le-leb, nat_le, cond, true, false, length-take, length-drop}
 use borrow.Author.Tests.{lt-leb}
 use Rattle.std.proofs.lemmas.List.{drop_more, take_all}
 use Rattle.std.proofs.lemmas.Bool.{cases_lt}
@@ -51,3 +51,7 @@ number_from width bytes at =
     (λ (past : length bytes < at). rw (number_of_none width bytes at (omega arith), number_of_none width (drop (min at (length bytes)) bytes) 0 (simp length-drop (omega arith))))
     (λ (within : at ≤ length bytes). let e : min at (length bytes) ≡ at = omega arith in rw (e, number_drop width at 0 bytes within, add-zero at))
     (cases_lt (length bytes) at))
+
+-- the number of the first four bytes, byte by byte
+pub four_whole : (bytes : List ℕ) → 4 ≤ length bytes → number_at 4 bytes 0 ≡ 16777216 * get_or (take 4 bytes) 0 0 + (65536 * get_or (take 4 bytes) 1 0 + (256 * get_or (take 4 bytes) 2 0 + get_or (take 4 bytes) 3 0))
+four_whole bytes h = let e = number_whole 4 bytes (take 4 bytes) h refl in omega (arith, e)

@@ -67,6 +67,7 @@ impl BigEndian for u32 {
 
     ghost value = { λ n. n };
 
+    #[tactic(auto, using(crate::proofs::Reading::number_past, crate::proofs::Reading::four_whole))]
     fn read_front(bytes: &[u8]) -> u32 {
         match bytes.first_chunk::<4>() {
             Some(field) => u32::from_be_bytes(*field),
