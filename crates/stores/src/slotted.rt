@@ -72,6 +72,49 @@ fn slot_start<F: Form>(page: u32, len: usize) -> usize
     F::WIDTH * page as usize
 }
 
+// How many pages a memory has.
+fn count_slots<F: Form>(memory: &[u8]) -> u32
+    ensures is_the_count { result ≡ count_of (slots_meaning F.WIDTH F.page_of memory.now) }
+    ensures means_sound_pages { Sound (slots_meaning F.WIDTH F.page_of memory.now) }
+    ensures counts_whole_slots { result ≡ slot_count F.WIDTH (length memory.now) }
+{
+    (memory.len() / F::WIDTH).min(MOST_PAGES as usize) as u32
+}
+
+// Hands the slot's part of the memory to the form, and the page in it on.
+fn read_slot<F: Form>(memory: &[u8], page: u32, buffer: &mut [u8]) -> Result<(), Refusal>
+    ensures answers_by_the_meaning { answer_of result ≡ read_answer (slots_meaning F.WIDTH F.page_of memory.now) page (length buffer.old) }
+    ensures fills_the_buffer { buffer.new ≡ after_read (slots_meaning F.WIDTH F.page_of memory.now) page buffer.old }
+{
+    reach(count_slots::<F>(memory), page, buffer.len())?;
+    let from = slot_start::<F>(page, memory.len());
+    let Some(found) = F::page_in(&memory[from..from + F::WIDTH]) else {
+        return Err(Refusal::Lost(page));
+    };
+    copy_page(found, buffer.as_mut_array().unwrap());
+    Ok(())
+}
+
+fn write_slot<F: Form>(memory: &mut [u8], page: u32, buffer: &[u8]) -> Result<(), Refusal>
+    ensures answers_by_the_meaning { answer_of result ≡ write_answer (slots_meaning F.WIDTH F.page_of memory.old) page (length buffer.now) }
+    ensures changes_that_page { slots_meaning F.WIDTH F.page_of memory.new ≡ after_write (slots_meaning F.WIDTH F.page_of memory.old) page buffer.now }
+    ensures changes_that_slot { memory.new ≡ slots_written F.WIDTH F.page_of F.slot_of memory.old page buffer.now }
+{
+    reach(count_slots::<F>(memory), page, buffer.len())?;
+    let at = slot_start::<F>(page, memory.len());
+    F::put_in(&mut memory[at..at + F::WIDTH], buffer.as_array().unwrap());
+    Ok(())
+}
+
+// The same for memory that is owned.
+fn write_owned<F: Form>(memory: &mut Vec<u8>, page: u32, buffer: &[u8]) -> Result<(), Refusal>
+    ensures answers_by_the_meaning { answer_of result ≡ write_answer (slots_meaning F.WIDTH F.page_of memory.old.items) page (length buffer.now) }
+    ensures changes_that_page { slots_meaning F.WIDTH F.page_of memory.new.items ≡ after_write (slots_meaning F.WIDTH F.page_of memory.old.items) page buffer.now }
+    ensures changes_that_slot { memory.new.items ≡ slots_written F.WIDTH F.page_of F.slot_of memory.old.items page buffer.now }
+{
+    write_slot::<F>(memory, page, buffer)
+}
+
 impl<F: Form> PageStore for Slotted<F> {
     ghost meaning = { λ s. slots_meaning F.WIDTH F.page_of (memory_of s) };
 
@@ -82,8 +125,7 @@ impl<F: Form> PageStore for Slotted<F> {
         ensures means_sound_pages { Sound (slots_meaning F.WIDTH F.page_of (memory_of self.now)) }
         ensures counts_whole_slots { result ≡ slot_count F.WIDTH (length (memory_of self.now)) }
     {
-        let memory = self.memory.as_slice();
-        (memory.len() / F::WIDTH).min(MOST_PAGES as usize) as u32
+        count_slots::<F>(&self.memory)
     }
 
     fn read(&mut self, page: u32, buffer: &mut [u8]) -> Result<(), Refusal>
@@ -92,14 +134,7 @@ impl<F: Form> PageStore for Slotted<F> {
         ensures fills_the_buffer { buffer.new ≡ after_read (slots_meaning F.WIDTH F.page_of (memory_of self.old)) page buffer.old }
         ensures keeps_the_memory { memory_of self.new ≡ memory_of self.old }
     {
-        reach(self.count(), page, buffer.len())?;
-        let from = slot_start::<F>(page, self.memory.len());
-        // The form is handed the slot's part of the memory, and the copy the page in it.
-        let Some(found) = F::page_in(&self.memory[from..from + F::WIDTH]) else {
-            return Err(Refusal::Lost(page));
-        };
-        copy_page(found, buffer.as_mut_array().unwrap());
-        Ok(())
+        read_slot::<F>(&self.memory, page, buffer)
     }
 
     fn write(&mut self, page: u32, buffer: &[u8]) -> Result<(), Refusal>
@@ -107,13 +142,7 @@ impl<F: Form> PageStore for Slotted<F> {
         ensures changes_that_page { slots_meaning F.WIDTH F.page_of (memory_of self.new) ≡ after_write (slots_meaning F.WIDTH F.page_of (memory_of self.old)) page buffer.now }
         ensures changes_that_slot { memory_of self.new ≡ slots_written F.WIDTH F.page_of F.slot_of (memory_of self.old) page buffer.now }
     {
-        reach(self.count(), page, buffer.len())?;
-        let at = slot_start::<F>(page, self.memory.len());
-        F::put_in(
-            &mut self.memory[at..at + F::WIDTH],
-            buffer.as_array().unwrap(),
-        );
-        Ok(())
+        write_owned::<F>(&mut self.memory, page, buffer)
     }
 
     fn settle(&mut self)
