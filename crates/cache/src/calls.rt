@@ -152,6 +152,8 @@ impl<S: PageStore> PageStore for Cache<S> {
         Ok(())
     }
 
+    // Inlined: a page is then written into its place with no copy of it in between.
+    #[inline]
     fn write(&mut self, page: u32, buffer: &[u8]) -> Result<(), Refusal>
         ensures answers_by_the_meaning { answer_of result ≡ write_answer (cache_meaning S.meaning self.old) page (length buffer.now) }
         ensures changes_that_page { cache_meaning S.meaning self.new ≡ after_write (cache_meaning S.meaning self.old) page buffer.now }
